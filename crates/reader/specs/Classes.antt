@@ -85,3 +85,7 @@ in-digits Apostrophe = false
 in-digits Point = false
 in-digits (Sign k) = false
 in-digits Unreadable = false
+
+-- what stands between lexemes: blanks and line ends
+abbrev pub is-gap : Class → Bool
+is-gap c = blank c || line-end c

@@ -1,4 +1,5 @@
 pub mod Classes
+pub mod Cursors
 pub mod Items
 pub mod Parts
 pub mod Places

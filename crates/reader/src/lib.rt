@@ -1,5 +1,6 @@
 // Bytes to lexemes: finds the lexemes of a sheet's text, each with its place, and refuses what is none.
 mod class;
+mod cursor;
 mod run;
 
 pub use class::Class;

@@ -2,6 +2,11 @@
 // It allocates nothing, each call takes constant time, and a full queue refuses in place of growing.
 mod refusal;
 mod ring;
+#[cfg(test)]
+mod tests;
 
 pub use refusal::Full;
+pub use refusal::FullDebug;
+pub use refusal::FullEq;
+pub use refusal::FullPartialEq;
 pub use ring::Queue;

@@ -1,5 +1,6 @@
 use mathlib.Core.Path.{refl, sym}
 use native.Mathlib.Omega.{arith}
+use denote.Ref.{name}
 use Rattle.std.proofs.shelf.Lists.{length-set}
 use Rattle.std.proofs.shelf.Tests.{lt-ltb, le-ltb}
 use Rattle.queue.specs.Waiting.{waiting, capacity}
@@ -13,7 +14,7 @@ unfolding capacity
 returns-then-self g c =
     let q = c .args .self .now in
     let count = counted q in
-    record { accepts = sym (le-ltb _ _ (omega arith)); list = refl {a = waiting q}; left = omega arith; size = refl {a = capacity q}; lender = refl }
+    record { accepts = sym (le-ltb _ _ (omega arith)); list = refl {a = waiting q}; left = omega arith; size = refl {a = capacity q}; lender = refl {a = name (q .places)} }
 
 pub returns : need.returns
 unfolding waiting capacity

@@ -1,5 +1,6 @@
 use mathlib.Core.Path.{refl}
 use native.Mathlib.Omega.{arith}
+use denote.Ref.{name}
 use Rattle.std.proofs.shelf.Lists.{nil-from-length}
 use Rattle.queue.specs.Waiting.{waiting, capacity, room}
 use Rattle.queue.proofs.Around.{room-more, take-below, take-last}
@@ -11,7 +12,7 @@ pub returns-then-self-eq0 : need.returns-then-self-eq0
 returns-then-self-eq0 g c =
     let q = c .args .self .now in
     let none = nil-from-length (waiting q) (omega (arith, counted q)) in
-    record { list = (none, none); left = refl {a = room q}; size = refl {a = capacity q}; lender = refl }
+    record { list = (none, none); left = refl {a = room q}; size = refl {a = capacity q}; lender = refl {a = name (q .places)} }
 
 pub returns : need.returns
 unfolding waiting capacity

@@ -1,0 +1,2 @@
+mod Around
+pub mod Laws

@@ -3,15 +3,18 @@ use mathlib.Core.Path.{_≡_, refl, sym, ap, _∙_}
 use mathlib.Core.Bool.{Bool, true, false, cond}
 use mathlib.Core.List.{List, [], _∷_}
 use Prim.Native.Nat.{ℕ, zero, suc, _+_, _-_, _≤_, _<_}
+use native.Mathlib.Nat.{sub-zero}
 use native.Mathlib.Numerals.{one-add}
 use native.Mathlib.Omega.{arith}
 use lib.ListN.{length, take, drop}
 use Rattle.std.proofs.shelf.Lists.{drop-more, drop-all, take-rest}
 use Rattle.std.proofs.shelf.Tests.{cond-true, cond-false, eq-eqb}
-use Rattle.reader.specs.Classes.{class, in-digits}
+use Rattle.reader.specs.Classes.{class, in-digits, in-name}
 use Rattle.reader.specs.Places.{byte}
-use Rattle.reader.specs.Runs.{fronts, point-and, fraction, number-length}
+use Rattle.reader.specs.Runs.{front, front-by, fronts, point-and, fraction, number-length, run, word-kind}
+use Rattle.sheet.specs.declared.lexeme.Kind.{Kind}
 use Rattle.reader.specs.declared.class.Class.{Class}
+use Rattle.reader.specs.declared.class.Class.the-variants.{Letter}
 
 module _ (p : Class → Bool) where
   pub fronts-le : (bs : List ℕ) → fronts p bs ≤ length bs
@@ -46,3 +49,14 @@ number-is bs whole part e f = ap (λ n. whole + n) (f ∙ ap fraction (take-rest
 pub point-and-some : (n : ℕ) → (n ≡ 0 → ⊥) → point-and n ≡ 1 + n
 point-and-some zero h = absurd (h refl)
 point-and-some (suc n) h = sym (one-add (suc n))
+
+-- what stands at the front goes by the class of the first byte
+pub front-is : (bs : List ℕ) → 0 < length bs → front bs ≡ front-by (class (byte bs 0)) bs
+front-is [] h = absurd (omega arith)
+front-is (b ∷ bs) h = refl
+
+-- a name, as the code reads it
+pub name-is : (bs : List ℕ) (k : Kind) (n : ℕ) → 0 < length bs → Letter ≡ class (byte bs 0) → n ≡ fronts in-name bs → k ≡ word-kind (take (n - 0) bs) → front bs ≡ run k n
+name-is bs k n some letter long kind =
+    front-is bs some ∙ ap (λ c. front-by c bs) (sym letter) ∙ ap (λ m. run (word-kind (take m bs)) m) (sym long)
+    ∙ ap (λ w. run w n) (ap (λ m. word-kind (take m bs)) (sym (sub-zero n)) ∙ sym kind)

@@ -1,3 +1,4 @@
 pub mod Fronts
 pub mod Steps
 pub mod Places
+pub mod Solid

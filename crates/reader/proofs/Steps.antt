@@ -3,18 +3,19 @@ use mathlib.Core.Path.{_≡_, refl, sym, ap, subst, _∙_}
 use mathlib.Core.Bool.{Bool, true, false, cond, _&&_, _||_, not}
 use mathlib.Core.List.{List, [], _∷_, _++_}
 use Prim.Native.Nat.{ℕ, zero, suc, _+_, _-_, _*_, _≤_, _<_}
+use native.Mathlib.Nat.{add-zero, add-suc, suc-add}
 use native.Mathlib.Numerals.{add-one}
 use native.Mathlib.Omega.{arith}
 use lib.Dec.{eqb}
 use lib.ListN.{length, drop}
-use Rattle.std.proofs.shelf.Lists.{drop-more}
+use Rattle.std.proofs.shelf.Lists.{drop-more, drop-drop}
 use Rattle.std.proofs.shelf.Tests.{false≢true, and-right, or-right, cond-true, cond-false}
 use Rattle.std.proofs.shelf.Ways.{tells}
 use Rattle.reader.specs.Classes.{class, is-gap, blank, line-end}
 use Rattle.reader.specs.Cursors.{Placed, Passed}
 use Rattle.reader.specs.Items.{here, extent, items, items-from}
 use Rattle.reader.specs.Places.{byte, crlf, line-end-length, short-line-end-length, ends-line, next-column, line-at, column-at, first-at}
-use Rattle.reader.specs.Runs.{front, front-by, gap}
+use Rattle.reader.specs.Runs.{Front, front, front-by, gap}
 use Rattle.reader.specs.declared.cursor.Cursor.{Cursor}
 use Rattle.reader.proofs.Places.{carriage-return, first-byte, line-end-inside, placed-blank, placed-line, placed-crlf}
 use Rattle.reader.specs.declared.class.Class.{Class}
@@ -33,6 +34,23 @@ gap-front Unreadable bs e = absurd (false≢true e)
 -- the byte at an offset comes first of what is left
 pub items-at : (t : List ℕ) (i : ℕ) → i < length t → items t i ≡ items-from t 0 i (byte t i ∷ drop (i + 1) t)
 items-at t i h = ap (items-from t 0 i) (drop-more t i 0 h)
+
+-- what is inside an item that was told brings none
+items-skip : (t : List ℕ) (n i : ℕ) (bs : List ℕ) → items-from t n i bs ≡ items-from t 0 (i + n) (drop n bs)
+items-skip t zero i bs = ap (λ j. items-from t 0 j bs) (sym (add-zero i))
+items-skip t (suc n) i [] = refl
+items-skip t (suc n) i (b ∷ bs) = items-skip t n (suc i) bs ∙ ap (λ j. items-from t 0 j (drop n bs)) (suc-add i n ∙ sym (add-suc i n))
+
+-- what stands at an offset is told, and then the items after it
+pub items-front : (t : List ℕ) (i : ℕ) (f : Front) → i < length t → front (drop i t) ≡ f → 0 < extent f → items t i ≡ here t i f ++ items t (i + extent f)
+items-front t i f h is some =
+    let rest = drop (i + 1) t in
+    let n = extent f - 1 in
+    let shown : front (byte t i ∷ rest) ≡ f = ap front (sym (drop-more t i 0 h)) ∙ is in
+    let on : suc i + n ≡ i + extent f = omega arith in
+    let past : drop n rest ≡ drop (i + extent f) t = drop-drop n (i + 1) t ∙ ap (λ j. drop j t) (omega arith) in
+    items-at t i h ∙ ap (λ g. here t i g ++ items-from t (extent g - 1) (suc i) rest) shown
+    ∙ ap (λ l. here t i f ++ l) (items-skip t n (suc i) rest ∙ ap (λ j. items-from t 0 j (drop n rest)) on ∙ ap (items-from t 0 (i + extent f)) past)
 
 -- a blank or a line end is no item
 pub items-gap : (t : List ℕ) (i : ℕ) → i < length t → is-gap (class (byte t i)) ≡ true → items t i ≡ items t (i + 1)

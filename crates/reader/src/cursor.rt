@@ -118,4 +118,17 @@ impl Cursor {
         }
         here
     }
+
+    // After a run of so many bytes, none of them a blank or a line end.
+    pub fn after_run(self, length: usize) -> Cursor
+        requires { ⌜ self .offset + length < 65536 ⌝ ∗ ⌜ self .column ≤ 1 + 8 * self .offset ⌝ }
+        ensures { λ r. ⌜ r ≡ record { offset = self .offset + length; line = self .line; column = self .column + length; first = false } ⌝ }
+    {
+        Cursor {
+            offset: self.offset + length,
+            line: self.line,
+            column: self.column + length as u32,
+            first: false,
+        }
+    }
 }

@@ -1,10 +1,13 @@
 // Runs of bytes: how far a name or a number reaches, and which names are keywords.
 ghost use mathlib.Core.Path.{_≡_};
-ghost use Prim.Native.Nat.{_≤_};
+ghost use mathlib.Core.Bool.{false};
+ghost use Prim.Native.Nat.{_<_, _≤_};
 ghost use lib.ListN.{length};
-ghost use Rattle.reader.specs.Runs.{fraction, fronts, number-length, word-kind};
+ghost use Rattle.reader.specs.Runs.{fraction, front, fronts, number-length, word-kind};
 ghost use Rattle.std.specs.shelf.Text.{sameBytes};
-ghost use Rattle.reader.specs.Parts.{takes};
+ghost use Rattle.reader.specs.Classes.{class, is-gap};
+ghost use Rattle.reader.specs.Parts.{front-of, run-length, takes};
+ghost use Rattle.reader.specs.Places.{byte};
 use crate::class::Class;
 use crate::class::class_of;
 use sheet::Kind;
@@ -86,5 +89,37 @@ pub fn word_kind(word: &[u8]) -> Kind
         Kind::Do
     } else {
         Kind::Name
+    }
+}
+
+// A run of bytes that could be a lexeme.
+#[derive(Clone, Copy)]
+pub struct Run {
+    pub kind: Kind,
+    pub length: usize,
+}
+
+// The run at the front, or none where the first byte begins no lexeme.
+pub fn front_run(bytes: &[u8]) -> Option<Run>
+    requires some { ⌜ 0 < length (now bytes) ⌝ }
+    requires no_gap { ⌜ is-gap (class (byte (now bytes) 0)) ≡ false ⌝ }
+    ensures value { λ r. ⌜ front (now (bytes .entry)) ≡ front-of r ⌝ }
+    ensures within { λ r. ⌜ run-length r ≤ length (now (bytes .entry)) ⌝ }
+{
+    match class_of(bytes[0]) {
+        Class::Letter => {
+            let length = front_length(bytes, Part::Name);
+            let kind = word_kind(&bytes[0..length]);
+            Some(Run { kind, length })
+        }
+        Class::Digit => {
+            let length = number_length(bytes);
+            Some(Run {
+                kind: Kind::Number,
+                length,
+            })
+        }
+        Class::Sign(kind) => Some(Run { kind, length: 1 }),
+        _ => None,
     }
 }

@@ -2,3 +2,4 @@ pub mod Fronts
 pub mod Steps
 pub mod Places
 pub mod Solid
+pub mod Finds

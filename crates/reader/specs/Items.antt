@@ -14,6 +14,7 @@ use Rattle.sheet.specs.declared.fault.Reason.the-variants.{UnreadableByte, RunT
 use Rattle.sheet.specs.declared.lexeme.Kind.{Kind}
 use Rattle.sheet.specs.declared.lexeme.Lexeme.{Lexeme}
 use Rattle.reader.specs.Places.{line-at, column-at, first-at}
+use Rattle.reader.specs.declared.cursor.Cursor.{Cursor}
 use Rattle.reader.specs.Runs.{Front, gap, stray, run, front}
 
 -- a lexeme, or a fault with the offset and the length of what it refuses
@@ -21,26 +22,35 @@ pub data Item : Type 0 where
   good : Lexeme → Item
   bad : (offset long : ℕ) → Fault → Item
 
--- the lexeme of n bytes at offset i
-abbrev pub lexeme-at : List ℕ → ℕ → Kind → ℕ → Lexeme
-lexeme-at t i k n = record { kind = kind-number k; line = line-at t i; column = column-at t i; first = first-at t i; offset = i; length = n }
+-- where offset i stands
+abbrev pub spot : List ℕ → ℕ → Cursor
+spot t i = record { offset = i; line = line-at t i; column = column-at t i; first = first-at t i }
 
--- a fault at offset i
-abbrev pub fault-at : List ℕ → ℕ → Reason → Fault
-fault-at t i why = record { reason = why; line = line-at t i; column = column-at t i; context = None }
+-- the lexeme of n bytes at a spot
+abbrev pub lexeme-at : Cursor → Kind → ℕ → Lexeme
+lexeme-at c k n = record { kind = kind-number k; line = c .line; column = c .column; first = c .first; offset = c .offset; length = n }
+
+-- a fault at a spot
+abbrev pub fault-at : Cursor → Reason → Fault
+fault-at c why = record { reason = why; line = c .line; column = c .column; context = None }
 
 -- a run is refused if it has more than 64 bytes, and then if it begins past column 4,095
-abbrev pub run-item : List ℕ → ℕ → Kind → ℕ → Item
-run-item t i k n =
-    cond (ltb 64 n) (bad i n (fault-at t i RunTooLong))
-    (cond (ltb 4095 (column-at t i)) (bad i n (fault-at t i ColumnTooFar)) (good (lexeme-at t i k n)))
+abbrev pub judged : Cursor → Kind → ℕ → Result Lexeme Fault
+judged c k n =
+    cond (ltb 64 n) (Err (fault-at c RunTooLong)) (cond (ltb 4095 (c .column)) (Err (fault-at c ColumnTooFar)) (Ok (lexeme-at c k n)))
 
--- what the text has at offset i, and how many bytes that takes
+-- the item of n bytes at offset i
+abbrev pub item-of : ℕ → ℕ → Result Lexeme Fault → Item
+item-of i n (Ok l) = good l
+item-of i n (Err f) = bad i n f
+
+-- what the text has at offset i
 abbrev pub here : List ℕ → ℕ → Front → List Item
 here t i gap = []
-here t i stray = bad i 1 (fault-at t i UnreadableByte) ∷ []
-here t i (run k n) = run-item t i k n ∷ []
+here t i stray = bad i 1 (fault-at (spot t i) UnreadableByte) ∷ []
+here t i (run k n) = item-of i n (judged (spot t i) k n) ∷ []
 
+-- how many bytes that takes
 abbrev pub extent : Front → ℕ
 extent gap = 1
 extent stray = 1

@@ -1,5 +1,6 @@
 pub mod Classes
 pub mod Cursors
+pub mod Found
 pub mod Items
 pub mod Parts
 pub mod Places

@@ -3,3 +3,4 @@ pub mod Steps
 pub mod Places
 pub mod Solid
 pub mod Finds
+pub mod Readings

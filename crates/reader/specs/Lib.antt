@@ -4,4 +4,6 @@ pub mod Found
 pub mod Items
 pub mod Parts
 pub mod Places
+pub mod Reading
+pub mod Refusals
 pub mod Runs

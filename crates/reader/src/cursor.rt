@@ -111,6 +111,7 @@ impl Cursor {
         ensures placed { λ r. ⌜ Placed (now (text .entry)) r ⌝ }
         ensures same { λ r. ⌜ items (now (text .entry)) (self .offset) ≡ items (now (text .entry)) (r .offset) ⌝ }
         ensures stops { λ r. ⌜ NoGap (now (text .entry)) (r .offset) ⌝ }
+        ensures onward { λ r. ⌜ self .offset ≤ r .offset ⌝ }
     {
         let mut here = self;
         while let Some(next) = here.after_gap(text) {

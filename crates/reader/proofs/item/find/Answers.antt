@@ -1,4 +1,4 @@
-use mathlib.Core.Path.{_≡_, ap, sym, _∙_}
+use mathlib.Core.Path.{_≡_, ap, subst, sym, _∙_}
 use mathlib.Core.List.{_∷_, []}
 use Prim.Native.Nat.{_+_, _<_, _≤_}
 use native.Mathlib.Omega.{arith}
@@ -7,11 +7,12 @@ use Rattle.std.proofs.shelf.Lists.{take-rest}
 use Rattle.std.specs.declared.result.Result.the-variants.{Err}
 use Rattle.sheet.specs.declared.fault.Reason.the-variants.{UnreadableByte}
 use Rattle.reader.specs.Classes.{class, is-gap}
+use Rattle.reader.specs.Found.{Begins}
 use Rattle.reader.specs.Items.{fault-at, item-of, judged}
 use Rattle.reader.specs.Parts.{run-length}
 use Rattle.reader.specs.Places.{byte}
 use Rattle.reader.specs.Runs.{front, run, stray}
-use Rattle.reader.proofs.Finds.{ends, finds, placed-is}
+use Rattle.reader.proofs.Finds.{ends, finds, judged-begins, placed-is}
 use Rattle.reader.proofs.Places.{column-bounds, first-byte}
 use Rattle.reader.proofs.item.find.Needs as need
 use Rattle.reader.proofs.item.find.Needs.{After-front-run}
@@ -60,6 +61,7 @@ returns-in-Some c =
     (ap front (sym (take-rest t (at .offset))) ∙ c .in-Some .ensures tt .value)
     (omega arith) (c .judge .result)
     (ap (λ r. item-of (at .offset) n r ∷ []) (c .judge .ensures ∙ ap (λ s. judged s (found .kind) n) (placed-is t at (c .pre .placed))))
+    (subst (Begins (at .offset)) (sym (c .judge .ensures)) (judged-begins at (found .kind) n))
     (c .after-run .result) (c .after-run .ensures)
 
 pub returns-in-None : need.returns-in-None
@@ -71,4 +73,4 @@ returns-in-None c =
     (ap front (sym (take-rest t (at .offset))) ∙ c .in-None .ensures tt .value)
     (omega (arith, c .pre .placed .within)) (Err (c .fault .result))
     (ap (λ f. item-of (at .offset) 1 (Err f) ∷ []) (c .fault .ensures ∙ ap (λ s. fault-at s UnreadableByte) (placed-is t at (c .pre .placed))))
-    (c .after-run-in-None .result) (c .after-run-in-None .ensures)
+    tt (c .after-run-in-None .result) (c .after-run-in-None .ensures)

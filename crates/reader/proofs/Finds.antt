@@ -33,7 +33,7 @@ pub placed-is : (t : List ℕ) (c : Cursor) → Placed t c → c ≡ spot t (c .
 placed-is t c placed i = record { offset = c .offset; line = placed .line i; column = placed .column i; first = placed .first i }
 
 -- none of the bytes that an item takes is a blank or a line end
-solid : (t : List ℕ) (i : ℕ) → i < length t → is-gap (class (byte t i)) ≡ false → Solid-front (drop i t) (extent (front (drop i t)))
+pub solid : (t : List ℕ) (i : ℕ) → i < length t → is-gap (class (byte t i)) ≡ false → Solid-front (drop i t) (extent (front (drop i t)))
 solid t i h black = let P : List ℕ → Type 0 = λ bs. Solid-front bs (extent (front bs)) in subst P (sym (drop-more t i 0 h)) (front-solid (byte t i) (drop (i + 1) t) black)
 
 -- a run that is no fault begins where it stands

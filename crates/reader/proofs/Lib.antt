@@ -4,3 +4,6 @@ pub mod Places
 pub mod Solid
 pub mod Finds
 pub mod Readings
+pub mod Chains
+pub mod Pieces
+pub mod Columns

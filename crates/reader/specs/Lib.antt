@@ -2,8 +2,10 @@ pub mod Classes
 pub mod Cursors
 pub mod Found
 pub mod Items
+pub mod Laws
 pub mod Parts
 pub mod Places
 pub mod Reading
 pub mod Refusals
 pub mod Runs
+pub mod Spelling

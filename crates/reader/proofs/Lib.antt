@@ -7,3 +7,6 @@ pub mod Readings
 pub mod Chains
 pub mod Pieces
 pub mod Columns
+pub mod Spelled
+pub mod Has
+pub mod Lawful

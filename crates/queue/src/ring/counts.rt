@@ -13,6 +13,7 @@ impl<T: Copy> Queue<'_, T> {
         self.count
     }
 
+    // Whether no element waits.
     pub fn is_empty(&self) -> bool
         ensures { λ r. ⌜ r ≡ eqb (length (waiting (now (self .entry)))) 0 ⌝ }
     {

@@ -1,12 +1,14 @@
+// What puts elements in at one end and takes them out at the other.
 ghost use mathlib.Core.Path.{_≡_};
 ghost use mathlib.Core.List.{[], _∷_, _++_};
 ghost use mathlib.Core.Bool.{cond};
-ghost use Prim.Native.Nat.{_+_, _-_};
-ghost use lib.Dec.{eqb, ltb};
-ghost use lib.ListN.{length};
+ghost use Prim.Native.Nat.{_+_, _-_, _<_, _≤_};
+ghost use lib.Dec.{ltb};
+ghost use lib.ListN.{length, getD};
 ghost use denote.Ref.{name};
 ghost use Rattle.std.specs.Options.{Cases as BySome};
 ghost use Rattle.std.specs.Results.{isOk};
+ghost use Rattle.queue.specs.Ring.{onward};
 ghost use Rattle.queue.specs.Waiting.{waiting, capacity, room};
 use super::Queue;
 use crate::refusal::Full;
@@ -36,14 +38,9 @@ impl<'a, T: Copy> Queue<'a, T> {
         if self.count == self.places.len() {
             return Err(Full);
         }
-        let to_end = self.places.len() - self.first;
-        let at = if self.count < to_end {
-            self.first + self.count
-        } else {
-            self.count - to_end
-        };
-        self.places[at] = x;
-        self.count += 1;
+        let count = self.count;
+        let at = self.place(count);
+        self.fill(at, x);
         Ok(())
     }
 
@@ -58,32 +55,48 @@ impl<'a, T: Copy> Queue<'a, T> {
             return None;
         }
         let oldest = self.places[self.first];
-        self.first = if self.first + 1 < self.places.len() {
-            self.first + 1
-        } else {
-            0
-        };
-        self.count -= 1;
+        let next = self.place(1);
+        self.advance(next);
         Some(oldest)
     }
 
-    // How many elements wait.
-    pub fn len(&self) -> usize
-        ensures { λ r. ⌜ r ≡ length (waiting (now (self .entry))) ⌝ }
+    // The place k places behind the first. It compares before it adds, since the sum could pass the largest number.
+    fn place(&self, k: usize) -> usize
+        requires some { ⌜ 0 < capacity (now self) ⌝ }
+        requires within { ⌜ k ≤ capacity (now self) ⌝ }
+        ensures { λ r. ⌜ r ≡ onward (capacity (now (self .entry))) (now (self .entry) .first) k ⌝ }
     {
-        self.count
+        let to_end = self.places.len() - self.first;
+        if k < to_end {
+            self.first + k
+        } else {
+            k - to_end
+        }
     }
 
-    pub fn is_empty(&self) -> bool
-        ensures { λ r. ⌜ r ≡ eqb (length (waiting (now (self .entry)))) 0 ⌝ }
+    // Adds x in the free place behind the last waiting element.
+    fn fill(&mut self, at: usize, x: T)
+        requires some { ⌜ now self .count < capacity (now self) ⌝ }
+        requires behind { ⌜ at ≡ onward (capacity (now self)) (now self .first) (now self .count) ⌝ }
+        ensures list { λ _. ⌜ waiting (now (self .exit)) ≡ waiting (now (self .entry)) ++ x ∷ [] ⌝ }
+        ensures more { λ _. ⌜ now (self .exit) .count ≡ now (self .entry) .count + 1 ⌝ }
+        ensures size { λ _. ⌜ capacity (now (self .exit)) ≡ capacity (now (self .entry)) ⌝ }
+        ensures lender { λ _. ⌜ name (now (self .exit) .places) ≡ name (now (self .entry) .places) ⌝ }
     {
-        self.count == 0
+        self.places[at] = x;
+        self.count += 1;
     }
 
-    // How many more elements `put` would accept now.
-    pub fn free(&self) -> usize
-        ensures { λ r. ⌜ r ≡ room (now (self .entry)) ⌝ }
+    // Leaves the oldest waiting element's place free.
+    fn advance(&mut self, next: usize)
+        requires some { ⌜ 0 < now self .count ⌝ }
+        requires behind { ⌜ next ≡ onward (capacity (now self)) (now self .first) 1 ⌝ }
+        ensures list { λ _. ⌜ ((d : T) → waiting (now (self .entry)) ≡ getD (now (now (self .entry) .places)) (now (self .entry) .first) d ∷ waiting (now (self .exit))) ⌝ }
+        ensures less { λ _. ⌜ now (self .exit) .count + 1 ≡ now (self .entry) .count ⌝ }
+        ensures size { λ _. ⌜ capacity (now (self .exit)) ≡ capacity (now (self .entry)) ⌝ }
+        ensures lender { λ _. ⌜ name (now (self .exit) .places) ≡ name (now (self .entry) .places) ⌝ }
     {
-        self.places.len() - self.count
+        self.first = next;
+        self.count -= 1;
     }
 }

@@ -1,5 +1,6 @@
 -- A reading, lexeme by lexeme. Assumes nothing.
 use mathlib.Core.Path.{_≡_, refl, sym, ap, subst, _∙_}
+use mathlib.Core.Bool.{false}
 use mathlib.Core.List.{List, [], _∷_, _++_, map, append-assoc}
 use Prim.Native.Nat.{ℕ, zero, suc, _+_, _-_, _≤_, _<_}
 use native.Mathlib.Omega.{arith}
@@ -10,6 +11,9 @@ use Rattle.std.specs.declared.option.Option.{Option}
 use Rattle.std.specs.declared.option.Option.the-variants.{Some, None}
 use Rattle.std.specs.declared.result.Result.{Result}
 use Rattle.std.specs.declared.result.Result.the-variants.{Ok, Err}
+use Rattle.std.proofs.shelf.Tests.{true≢false}
+use Rattle.std.specs.Options.{isSome}
+use Rattle.std.specs.Results.{isOk}
 use Rattle.queue.specs.Waiting.{capacity, room, waiting}
 use Rattle.queue.specs.declared.ring.Queue.{Queue}
 use Rattle.sheet.specs.declared.fault.Fault.{Fault}
@@ -19,6 +23,8 @@ use Rattle.reader.specs.Reading.{Reading, answer, answer-of, offset-of, readin
 use Rattle.reader.specs.declared.reader.Reader.{Reader}
 use Rattle.reader.specs.declared.stop.Stop.{Stop}
 use Rattle.reader.specs.declared.stop.Stop.the-variants.{Fault as stop-fault, Full as stop-full}
+use Rattle.reader.proofs.Chains.{chain}
+use Rattle.reader.proofs.Pieces.{piece}
 
 -- a reading puts some lexemes and then does what another does
 pub record Then (ls : List Lexeme) (a b : Reading) : Type 0 where
@@ -51,6 +57,12 @@ pub record Outcome (r : Reader) (q : Queue Lexeme) (a : Result ℕ Stop) (list :
   pub answered : a ≡ answer (reads r q)
   pub waits : list ≡ waiting q ++ reads r q .put
   pub goes-on : next ≡ reads r q .next
+  pub forward : isOk a ≡ false → 0 < room q → offset-of r < next
+
+-- a reading that stops before the end has come on, if it had a free place
+goes-forward : (r : Reader) (q : Queue Lexeme) (s : Option Stop) → reads r q .stop ≡ s → (n : ℕ) → isOk (answer-of n s) ≡ false → 0 < room q → offset-of r < reads r q .next
+goes-forward r q None e n refused some = absurd (true≢false refused)
+goes-forward r q (Some s) e n refused some = piece (text-of r) (chain (text-of r) (offset-of r) (r .within)) (room q) .forward some (ap isSome e)
 
 module _ {r : Reader} {q : Queue Lexeme} {s : Reader} {p : Queue Lexeme} {count : ℕ} (sofar : Sofar r q s p count) where
   -- what is still to be read is read as from the start
@@ -78,6 +90,7 @@ module _ {r : Reader} {q : Queue Lexeme} {s : Reader} {p : Queue Lexeme} {count 
         answered = ap (λ n. answer-of n stop) (sofar .counted ∙ sym (ap length put)) ∙ ap (answer-of (length (reads r q .put))) (sym why);
         waits = sofar .list ∙ ap (λ l. waiting q ++ l) (sym put);
         goes-on = sym (on .next ∙ ap (λ (x : Reading). x .next) is);
+        forward = λ refused some. subst (λ j. offset-of r < j) (on .next ∙ ap (λ (x : Reading). x .next) is) (goes-forward r q stop why count refused some);
       }
 
   -- at the end of the text

@@ -1,12 +1,14 @@
 // Checking, opening and reading a text.
 ghost use mathlib.Core.Path.{_≡_};
-ghost use mathlib.Core.Bool.{cond};
+ghost use mathlib.Core.Bool.{cond, false};
 ghost use mathlib.Core.List.{[], _++_};
+ghost use Prim.Native.Nat.{_<_};
 ghost use denote.Ref.{name};
 ghost use lib.Dec.{leb};
 ghost use lib.ListN.{length};
 ghost use Rattle.std.specs.Results.{isOk};
-ghost use Rattle.queue.specs.Waiting.{capacity, waiting};
+ghost use Rattle.queue.specs.Waiting.{capacity, room, waiting};
+ghost use Rattle.reader.specs.Laws.{Laws};
 ghost use Rattle.reader.specs.Places.{column-at, line-at};
 ghost use Rattle.reader.specs.Reading.{answer, offset-of, reads, text-of};
 use super::Reader;
@@ -37,6 +39,7 @@ impl<'a> Reader<'a> {
     pub fn open(text: &'a [u8]) -> Reader<'a>
         ensures text { λ r. ⌜ text-of r ≡ cond (leb (length (now (text .entry))) 65535) (now (text .entry)) [] ⌝ }
         ensures start { λ r. ⌜ offset-of r ≡ 0 ⌝ }
+        ensures laws { λ r. ⌜ Laws (text-of r) ⌝ }
     {
         let here = Cursor {
             offset: 0,
@@ -66,6 +69,7 @@ impl<'a> Reader<'a> {
         ensures list { λ _. ⌜ waiting (now (queue .exit)) ≡ waiting (now (queue .entry)) ++ reads (now (self .entry)) (now (queue .entry)) .put ⌝ }
         ensures next { λ _. ⌜ offset-of (now (self .exit)) ≡ reads (now (self .entry)) (now (queue .entry)) .next ⌝ }
         ensures text { λ _. ⌜ text-of (now (self .exit)) ≡ text-of (now (self .entry)) ⌝ }
+        ensures forward { λ r. ⌜ (isOk r ≡ false → 0 < room (now (queue .entry)) → offset-of (now (self .entry)) < offset-of (now (self .exit))) ⌝ }
         ensures size { λ _. ⌜ capacity (now (queue .exit)) ≡ capacity (now (queue .entry)) ⌝ }
         ensures lender { λ _. ⌜ name (now (queue .exit) .places) ≡ name (now (queue .entry) .places) ⌝ }
     {

@@ -4,7 +4,7 @@ use Prim.Native.Nat.{_+_, _<_}
 use native.Mathlib.Omega.{arith}
 use lib.ListN.{length}
 use Rattle.std.proofs.shelf.Results.{err-from-errBy}
-use Rattle.std.proofs.shelf.Tests.{cond-true, cond-false, ltb-false, ltb-true}
+use Rattle.std.proofs.shelf.Tests.{cond-true, cond-false, ltb-false, ltb-true, true≢false}
 use Rattle.std.specs.Results.{isOk}
 use Rattle.std.specs.declared.result.Result.the-variants.{Ok, Err}
 use Rattle.reader.specs.Found.{Begins}
@@ -35,6 +35,7 @@ returns-in-rest c =
       list = out .waits;
       next = end .end ∙ ap length (sofar .text) ∙ out .goes-on;
       text = sofar .text;
+      forward = λ refused. absurd (true≢false refused);
       size = sofar .size;
       lender = sofar .lender;
     }
@@ -54,6 +55,7 @@ returns-in-Break-put c =
       list = refused .list ∙ out .waits;
       next = sym begins ∙ out .goes-on;
       text = sofar .text;
+      forward = λ refused some. omega (arith, out .forward refl some, begins);
       size = refused .size ∙ sofar .size;
       lender = refused .lender ∙ sofar .lender;
     }
@@ -70,6 +72,7 @@ returns-in-Err c =
       list = out .waits;
       next = found .past ∙ out .goes-on;
       text = sofar .text;
+      forward = λ refused some. omega (arith, out .forward refused some, found .past);
       size = sofar .size;
       lender = sofar .lender;
     }

@@ -1,6 +1,7 @@
 // Why a sheet, or a call for it, is refused, and where.
 ghost use mathlib.Core.Path.{_≡_};
 ghost use Rattle.sheet.specs.Faults.{known, layer-number};
+use std::fmt;
 
 // The layer that refuses.
 #[derive(Clone, Copy, Debug, PartialEq, Eq)]
@@ -94,6 +95,21 @@ impl Reason {
             Reason::UnreadableByte | Reason::RunTooLong | Reason::ColumnTooFar => Layer::Text,
             Reason::NotViable | Reason::ReachSpent | Reason::NotComplete => Layer::Parser,
             _ => Layer::Layout,
+        }
+    }
+}
+
+// Line, column, layer, number and context, with `-` for an absent one.
+pub impl fmt::Display for Fault as FaultDisplay {
+    fn fmt<W: fmt::Write>(&self, f: &mut fmt::Formatter<W>) -> fmt::Result {
+        let line = self.line;
+        let column = self.column;
+        let layer = self.reason.layer().number();
+        let number = self.reason.number();
+        write!(f, "{line} {column} {layer} {number} ")?;
+        match self.context {
+            Some(context) => write!(f, "{context}"),
+            None => write!(f, "-"),
         }
     }
 }

@@ -1,6 +1,7 @@
 // What a sheet is made of: kinds, the lexemes that the reader finds and the tokens that the resolver writes.
 ghost use mathlib.Core.Path.{_≡_};
 ghost use Rattle.sheet.specs.Kinds.{kind-number, Numbered, opens};
+use std::fmt;
 
 // The fifteen kinds of lexemes.
 #[derive(Clone, Copy, Debug, PartialEq, Eq)]
@@ -90,4 +91,17 @@ pub struct Token {
     pub column: u32,
     pub offset: u32,
     pub length: u32,
+}
+
+// Line, column, kind, flag (1 or 0), offset and length.
+pub impl fmt::Display for Lexeme as LexemeDisplay {
+    fn fmt<W: fmt::Write>(&self, f: &mut fmt::Formatter<W>) -> fmt::Result {
+        let line = self.line;
+        let column = self.column;
+        let kind = self.kind;
+        let first = self.first as u8;
+        let offset = self.offset;
+        let length = self.length;
+        write!(f, "{line} {column} {kind} {first} {offset} {length}")
+    }
 }

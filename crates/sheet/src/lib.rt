@@ -5,6 +5,7 @@ mod lexeme;
 
 pub use fault::Fault;
 pub use fault::FaultDebug;
+pub use fault::FaultDisplay;
 pub use fault::FaultEq;
 pub use fault::FaultPartialEq;
 pub use fault::Layer;
@@ -21,6 +22,7 @@ pub use lexeme::KindEq;
 pub use lexeme::KindPartialEq;
 pub use lexeme::Lexeme;
 pub use lexeme::LexemeDebug;
+pub use lexeme::LexemeDisplay;
 pub use lexeme::LexemeEq;
 pub use lexeme::LexemePartialEq;
 pub use lexeme::Place;

@@ -4,7 +4,7 @@
 use mathlib.Core.Path.{_≡_, refl, sym, ap, subst, _∙_}
 use mathlib.Core.Bool.{Bool, true, false, _&&_, _||_}
 use mathlib.Core.Logic.{⊎-elim}
-use mathlib.Core.List.{List, [], _∷_}
+use mathlib.Core.List.{List, [], _∷_, _++_}
 use Prim.Native.Nat.{ℕ, _-_, _<_, _≤_}
 use native.Mathlib.Omega.{arith}
 use lib.Dec.{eqb, leb, ltb}
@@ -12,12 +12,12 @@ use lib.ListN.{getD}
 use borrow.Author.Tests.{eqb-true, leb-true, le-leb, both-ways}
 use Rattle.std.specs.Orderings.{Decides}
 use Rattle.std.proofs.shelf.Tests.{and-parts, or-cases, cases-lt, cases-order}
-use Rattle.grammar.specs.Grammar.{Derives, IsKind, IsNonterminal, Kinds, start, Nullable, CanBegin, CanFollow, among}
+use Rattle.grammar.specs.Grammar.{Derives, done, keep, replace, IsKind, IsNonterminal, Kinds, start, Nullable, CanBegin, CanFollow, among}
 use Rattle.grammar.specs.Sheet.{sheet}
 use Rattle.grammar.specs.Sets.{nullables, beginnerRows, followerRows, beginners, followers}
-use Rattle.grammar.proofs.Tests.{implies, implied, below, at-below}
-use Rattle.grammar.proofs.Derivations.{derives-refl}
-use Rattle.grammar.proofs.Closed.{Closed, leads, vanishes-back, begins-sound, follow-sound}
+use Rattle.grammar.proofs.Tests.{implies, implied, below, at-below, at-each}
+use Rattle.grammar.proofs.Derivations.{derives-refl, derives-append}
+use Rattle.grammar.proofs.Closed.{Closed, leads, vanishes, begins, vanishes-back, begins-sound, follow-sound}
 use Rattle.grammar.proofs.Scripts.{plays, played, play}
 use Rattle.grammar.proofs.Witnessed.{Witness, script, every, member, row-member, row-high, isEmpty, is-empty, headed, is-headed, adjacent, is-adjacent, isKind, is-kind, allKinds, all-kinds}
 
@@ -187,10 +187,10 @@ productive s low high =
     ⊎-elim
     (λ h. (s ∷ [], derives-refl (s ∷ []), ((low, omega arith), tt)))
     (λ h.
-    let by = script to-kinds s 0 in
-    let passed = implied (leb 16 s) (kinds-by s) (at-below (λ s. implies (leb 16 s) (kinds-by s)) 26 s all-productive (omega arith)) (le-leb 16 s h) in
-    let parts = and-parts (plays sheet by (s ∷ [])) (allKinds (played sheet by (s ∷ []))) passed in
-    (played sheet by (s ∷ []), play sheet by (s ∷ []) (parts .0), all-kinds (played sheet by (s ∷ [])) (parts .1)))
+        let by = script to-kinds s 0 in
+        let passed = implied (leb 16 s) (kinds-by s) (at-below (λ s. implies (leb 16 s) (kinds-by s)) 26 s all-productive (omega arith)) (le-leb 16 s h) in
+        let parts = and-parts (plays sheet by (s ∷ [])) (allKinds (played sheet by (s ∷ []))) passed in
+        (played sheet by (s ∷ []), play sheet by (s ∷ []) (parts .0), all-kinds (played sheet by (s ∷ [])) (parts .1)))
     (cases-lt s 16)
 
 -- nullable exactly as the set has it
@@ -218,3 +218,74 @@ begin-exact s t = (λ e. (row-high beginnerRows s t e, begin-derives s t e), λ 
 pub follow-exact : (s t : ℕ) → Decides (among t (followers s)) (CanFollow sheet s t)
 unfolding follow
 follow-exact s t = (follow-derives s t, follow-sound closed s t)
+
+-- a list derives the empty list where all its symbols are nullable
+vanishes-derives : (x : List ℕ) → vanishes null x ≡ true → Derives sheet x []
+vanishes-derives [] e = done
+vanishes-derives (s ∷ x) e =
+    let parts = and-parts (null s) (vanishes null x) e in
+    derives-append (null-derives s (parts .0)) (vanishes-derives x (parts .1))
+
+pub vanishes-exact : (x : List ℕ) → Decides (vanishes null x) (Nullable sheet x)
+vanishes-exact x = (vanishes-derives x, λ d. vanishes-back closed d refl)
+
+leads-derives : (s t : ℕ) → IsKind t → leads begin s t ≡ true → CanBegin sheet (s ∷ []) t
+leads-derives s t k e =
+    ⊎-elim
+    (λ same. ([], k, subst (λ a. Derives sheet (a ∷ []) (t ∷ [])) (sym (eqb-true s t same)) (derives-refl (t ∷ []))))
+    (begin-derives s t)
+    (or-cases (eqb s t) (begin s t) e)
+
+begins-derives : (x : List ℕ) (t : ℕ) → IsKind t → begins null begin x t ≡ true → CanBegin sheet x t
+begins-derives [] t k e = absurd (both-ways false refl e)
+begins-derives (s ∷ x) t k e =
+    ⊎-elim
+    (λ l. let b = leads-derives s t k l in (b .0 ++ x, k, derives-append (b .2) (derives-refl x)))
+    (λ r.
+        let parts = and-parts (null s) (begins null begin x t) r in
+        let b = begins-derives x t k (parts .1) in
+        (b .0, k, derives-append (null-derives s (parts .0)) (b .2)))
+    (or-cases (leads begin s t) (null s && begins null begin x t) e)
+
+-- a kind can begin what a list derives exactly as the sets say
+pub begins-exact : (x : List ℕ) (t : ℕ) → IsKind t → Decides (begins null begin x t) (CanBegin sheet x t)
+begins-exact x t k = (begins-derives x t k, λ b. begins-sound closed t k (b .2))
+
+-- every symbol of the list is one of the grammar's
+abbrev pub Known : List ℕ → Type 0
+Known [] = Unit {0}
+Known (s ∷ x) = (1 ≤ s) × (s ≤ 25) × Known x
+
+abbrev known : List ℕ → Bool
+known [] = true
+known (s ∷ x) = (leb 1 s && leb s 25) && known x
+
+known-is : (x : List ℕ) → known x ≡ true → Known x
+known-is [] e = tt
+known-is (s ∷ x) e =
+    let parts = and-parts (leb 1 s && leb s 25) (known x) e in
+    let both = and-parts (leb 1 s) (leb s 25) (parts .0) in
+    (leb-true 1 s (both .0), leb-true s 25 (both .1), known-is x (parts .1))
+
+known-append : (x y : List ℕ) → Known x → Known y → Known (x ++ y)
+known-append [] y h k = k
+known-append (s ∷ x) y h k = (h .0, h .1, known-append x y (h .2) k)
+
+-- derived lists have no other symbols
+pub known-derived : {x w : List ℕ} → Derives sheet x w → Known x → Known w
+known-derived done h = h
+known-derived (keep d) h = (h .0, h .1, known-derived d (h .2))
+known-derived (replace {p = p} {x = x} n d) h =
+    known-derived d (known-append (p .right) x (known-is (p .right) (at-each (λ n p. known (p .right)) sheet refl n)) (h .2))
+
+-- a list of the grammar's symbols derives some list of kinds
+pub all-productive-derive : (x : List ℕ) → Known x → (w : List ℕ) × Derives sheet x w × Kinds w
+all-productive-derive [] h = ([], done, tt)
+all-productive-derive (s ∷ x) h =
+    let one = productive s (h .0) (h .1) in
+    let rest = all-productive-derive x (h .2) in
+    (one .0 ++ rest .0, derives-append (one .1) (rest .1), kinds-append (one .0) (rest .0) (one .2) (rest .2))
+  where
+    kinds-append : (u v : List ℕ) → Kinds u → Kinds v → Kinds (u ++ v)
+    kinds-append [] v h k = k
+    kinds-append (s ∷ u) v h k = (h .0, kinds-append u v (h .1) k)

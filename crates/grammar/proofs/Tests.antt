@@ -57,3 +57,17 @@ numbered [] (suc n) low high = absurd (not-suc-le-zero high)
 numbered (p ∷ G) zero low high = absurd (not-suc-le-zero low)
 numbered (p ∷ G) (suc zero) low high = first
 numbered (p ∷ G) (suc (suc n)) low high = later (numbered G (suc n) (omega arith) (omega arith))
+
+-- numbers are counted from 1
+pub numbered-positive : {G : Grammar} {n : ℕ} {p : Production} → Numbered G n p → 1 ≤ n
+numbered-positive first = omega arith
+numbered-positive (later d) = omega arith
+
+-- the production of a number is the one that stands there
+pub numbered-nth : {G : Grammar} {n : ℕ} {p : Production} → Numbered G n p → nth G n ≡ p
+numbered-nth first = refl
+numbered-nth {p = p} (later {n = n} {q = q} {G = G} d) = behind G n p d (numbered-nth d)
+  where
+    behind : (H : Grammar) (k : ℕ) (r : Production) → Numbered H k r → nth H k ≡ r → nth (q ∷ H) (suc k) ≡ r
+    behind H zero r d e = absurd (not-suc-le-zero (numbered-positive d))
+    behind H (suc k) r d e = e

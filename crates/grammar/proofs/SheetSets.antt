@@ -187,10 +187,10 @@ productive s low high =
     ⊎-elim
     (λ h. (s ∷ [], derives-refl (s ∷ []), ((low, omega arith), tt)))
     (λ h.
-        let by = script to-kinds s 0 in
-        let passed = implied (leb 16 s) (kinds-by s) (at-below (λ s. implies (leb 16 s) (kinds-by s)) 26 s all-productive (omega arith)) (le-leb 16 s h) in
-        let parts = and-parts (plays sheet by (s ∷ [])) (allKinds (played sheet by (s ∷ []))) passed in
-        (played sheet by (s ∷ []), play sheet by (s ∷ []) (parts .0), all-kinds (played sheet by (s ∷ [])) (parts .1)))
+    let by = script to-kinds s 0 in
+    let passed = implied (leb 16 s) (kinds-by s) (at-below (λ s. implies (leb 16 s) (kinds-by s)) 26 s all-productive (omega arith)) (le-leb 16 s h) in
+    let parts = and-parts (plays sheet by (s ∷ [])) (allKinds (played sheet by (s ∷ []))) passed in
+    (played sheet by (s ∷ []), play sheet by (s ∷ []) (parts .0), all-kinds (played sheet by (s ∷ [])) (parts .1)))
     (cases-lt s 16)
 
 -- nullable exactly as the set has it
@@ -219,6 +219,9 @@ pub follow-exact : (s t : ℕ) → Decides (among t (followers s)) (CanFollow sh
 unfolding follow
 follow-exact s t = (follow-derives s t, follow-sound closed s t)
 
+pub follow-test : (s t : ℕ) → Decides (follow s t) (CanFollow sheet s t)
+follow-test s t = (follow-derives s t, follow-sound closed s t)
+
 -- a list derives the empty list where all its symbols are nullable
 vanishes-derives : (x : List ℕ) → vanishes null x ≡ true → Derives sheet x []
 vanishes-derives [] e = done
@@ -242,9 +245,9 @@ begins-derives (s ∷ x) t k e =
     ⊎-elim
     (λ l. let b = leads-derives s t k l in (b .0 ++ x, k, derives-append (b .2) (derives-refl x)))
     (λ r.
-        let parts = and-parts (null s) (begins null begin x t) r in
-        let b = begins-derives x t k (parts .1) in
-        (b .0, k, derives-append (null-derives s (parts .0)) (b .2)))
+    let parts = and-parts (null s) (begins null begin x t) r in
+    let b = begins-derives x t k (parts .1) in
+    (b .0, k, derives-append (null-derives s (parts .0)) (b .2)))
     (or-cases (leads begin s t) (null s && begins null begin x t) e)
 
 -- a kind can begin what a list derives exactly as the sets say

@@ -1,0 +1,4 @@
+pub mod Flags
+pub mod Meanings
+pub mod Steps
+pub mod ForEver

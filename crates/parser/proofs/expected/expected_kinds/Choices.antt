@@ -1,0 +1,12 @@
+use mathlib.Core.Path.{_≡_}
+use mathlib.Core.Bool.{false}
+use Prim.Native.Nat.{ℕ, _+_, _<_}
+use lib.ListN.{length, getD}
+use Rattle.std.specs.Orderings.{Decides}
+use Rattle.parser.specs.Sets.{Begins}
+use Rattle.parser.proofs.expected.expected_kinds.Given as given
+
+-- each flag written so far tells of its kind
+abbrev pub Inv-loop-i : given.InvT-loop-i
+Inv-loop-i g l =
+    (length (l .flags) ≡ 15) × ((k : ℕ) → k < l .i → Decides (getD (l .flags) k false) (Begins (g .P·Probing .remainder (l .parser)) (k + 1)))

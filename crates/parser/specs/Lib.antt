@@ -1,0 +1,4 @@
+pub mod Sets
+pub mod Meaning
+pub mod Runs
+pub mod Expected

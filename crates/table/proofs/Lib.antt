@@ -1,0 +1,5 @@
+pub mod Rule
+pub mod Expand
+pub mod Sizes
+pub mod Laid
+pub mod Walks

@@ -1,0 +1,3 @@
+pub mod Entry
+pub mod Stack
+pub mod Walk

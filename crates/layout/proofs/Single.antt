@@ -1,0 +1,65 @@
+-- The rules are single-valued: where two apply, they are one. Assumes nothing.
+use mathlib.Core.Path.{_≡_, refl, sym, ap, subst, _∙_}
+use mathlib.Core.List.{List, [], _∷_, _++_, map}
+use Prim.Native.Nat.{ℕ, _<_}
+use native.Mathlib.Omega.{arith}
+use Rattle.parser.specs.Sets.{Lists}
+use Rattle.sheet.specs.declared.lexeme.Lexeme.{Lexeme}
+use Rattle.sheet.specs.declared.lexeme.Place.{Place}
+use Rattle.sheet.specs.declared.lexeme.Token.{Token}
+use Rattle.layout.specs.Layout.{Lays, Resolves, at-end, at-lexeme, ends, goes-on, kinds, writes}
+use Rattle.layout.specs.Marks.{Coming, after, column, end-mark, ending, inserted, lexeme, mark-of, written}
+use Rattle.layout.specs.Rules.{Applies, Explicit, MustClose, Onward, Plain, at-mark, block-left-open, close-at-end, close-on-error, close-shallower, close-typed, drop-deeper, drop-outside, empty-block, end, ended, inserts, leaves, lexeme-written, onward, open-block, open-typed, separate, stray-close, undefined, write-lexeme}
+use Rattle.layout.specs.declared.rule.Before.{Before}
+use Rattle.layout.specs.declared.rule.Mark.{Mark}
+use Rattle.layout.specs.declared.rule.Mark.the-variants.{None, Line, Block}
+use Rattle.layout.specs.declared.rule.Rule.{Rule}
+use Rattle.layout.specs.declared.rule.Rule.the-variants.{Separate, CloseShallower, DropMark, OpenBlock, EmptyBlock, CloseTyped, StrayClose, OpenTyped, CloseOnError, WriteLexeme, CloseAtEnd, End, BlockLeftOpen}
+
+module _ (G : Lists) (u : List ℕ) where
+  -- one rule at most applies
+  pub single-rule : {m : Mark} {c : Coming} {ks : List ℕ} {r s : Rule} → Applies G u m c ks r → Applies G u m c ks s → r ≡ s
+  single-rule (separate e) (separate e′) = refl
+  single-rule (separate e) (close-shallower h′) = absurd (omega arith)
+  single-rule (separate e) (drop-deeper h′) = absurd (omega arith)
+  single-rule (close-shallower h) (separate e′) = absurd (omega arith)
+  single-rule (close-shallower h) (close-shallower h′) = refl
+  single-rule (close-shallower h) (drop-deeper h′) = absurd (omega arith)
+  single-rule (drop-deeper h) (separate e′) = absurd (omega arith)
+  single-rule (drop-deeper h) (close-shallower h′) = absurd (omega arith)
+  single-rule (drop-deeper h) (drop-deeper h′) = refl
+  single-rule drop-outside drop-outside = refl
+  single-rule (open-block h) (open-block h′) = refl
+  single-rule (open-block h) (empty-block h′) = absurd (h′ h)
+  single-rule (empty-block h) (open-block h′) = absurd (h h′)
+  single-rule (empty-block h) (empty-block h′) = refl
+  single-rule (close-typed k x) (close-typed k′ x′) = refl
+  single-rule (close-typed k x) (stray-close k′ x′) = absurd (x′ x)
+  single-rule (close-typed k x) (open-typed k′) = absurd (omega arith)
+  single-rule (close-typed k x) (close-on-error p′ x′) = absurd (p′ .1 k)
+  single-rule (close-typed k x) (write-lexeme p′ x′) = absurd (p′ .1 k)
+  single-rule (stray-close k x) (close-typed k′ x′) = absurd (x x′)
+  single-rule (stray-close k x) (stray-close k′ x′) = refl
+  single-rule (stray-close k x) (open-typed k′) = absurd (omega arith)
+  single-rule (stray-close k x) (close-on-error p′ x′) = absurd (p′ .1 k)
+  single-rule (stray-close k x) (write-lexeme p′ x′) = absurd (p′ .1 k)
+  single-rule (open-typed k) (close-typed k′ x′) = absurd (omega arith)
+  single-rule (open-typed k) (stray-close k′ x′) = absurd (omega arith)
+  single-rule (open-typed k) (open-typed k′) = refl
+  single-rule (open-typed k) (close-on-error p′ x′) = absurd (p′ .0 k)
+  single-rule (open-typed k) (write-lexeme p′ x′) = absurd (p′ .0 k)
+  single-rule (close-on-error p x) (close-typed k′ x′) = absurd (p .1 k′)
+  single-rule (close-on-error p x) (stray-close k′ x′) = absurd (p .1 k′)
+  single-rule (close-on-error p x) (open-typed k′) = absurd (p .0 k′)
+  single-rule (close-on-error p x) (close-on-error p′ x′) = refl
+  single-rule (close-on-error p x) (write-lexeme p′ x′) = absurd (x′ x)
+  single-rule (write-lexeme p x) (close-typed k′ x′) = absurd (p .1 k′)
+  single-rule (write-lexeme p x) (stray-close k′ x′) = absurd (p .1 k′)
+  single-rule (write-lexeme p x) (open-typed k′) = absurd (p .0 k′)
+  single-rule (write-lexeme p x) (close-on-error p′ x′) = absurd (x x′)
+  single-rule (write-lexeme p x) (write-lexeme p′ x′) = refl
+  single-rule (close-at-end h) (close-at-end h′) = refl
+  single-rule (close-at-end h) (block-left-open e′) = absurd (omega arith)
+  single-rule end end = refl
+  single-rule (block-left-open e) (close-at-end h′) = absurd (omega arith)
+  single-rule (block-left-open e) (block-left-open e′) = refl

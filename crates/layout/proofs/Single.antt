@@ -8,9 +8,11 @@ use Rattle.sheet.specs.declared.lexeme.Lexeme.{Lexeme}
 use Rattle.sheet.specs.declared.lexeme.Place.{Place}
 use Rattle.sheet.specs.declared.lexeme.Token.{Token}
 use Rattle.layout.specs.Layout.{Lays, Resolves, at-end, at-lexeme, ends, goes-on, kinds, writes}
-use Rattle.layout.specs.Marks.{Coming, after, column, end-mark, ending, inserted, lexeme, mark-of, written}
+use Rattle.layout.specs.Marks.{after, column, end-mark, inserted, mark-of, written}
 use Rattle.layout.specs.Rules.{Applies, Explicit, MustClose, Onward, Plain, at-mark, block-left-open, close-at-end, close-on-error, close-shallower, close-typed, drop-deeper, drop-outside, empty-block, end, ended, inserts, leaves, lexeme-written, onward, open-block, open-typed, separate, stray-close, undefined, write-lexeme}
 use Rattle.layout.specs.declared.rule.Before.{Before}
+use Rattle.layout.specs.declared.rule.Coming.{Coming}
+use Rattle.layout.specs.declared.rule.Coming.the-variants.{Lexeme as lexeme, End as ending}
 use Rattle.layout.specs.declared.rule.Mark.{Mark}
 use Rattle.layout.specs.declared.rule.Mark.the-variants.{None, Line, Block}
 use Rattle.layout.specs.declared.rule.Rule.{Rule}
@@ -63,3 +65,41 @@ module _ (G : Lists) (u : List ℕ) where
   single-rule end end = refl
   single-rule (block-left-open e) (close-at-end h′) = absurd (omega arith)
   single-rule (block-left-open e) (block-left-open e′) = refl
+
+-- how a rule goes on tells the ways apart
+abbrev way : Onward → ℕ
+way (at-mark m) = 0
+way lexeme-written = 1
+way ended = 2
+way undefined = 3
+
+abbrev mark-in : Onward → Mark → Mark
+mark-in (at-mark m) d = m
+mark-in lexeme-written d = d
+mark-in ended d = d
+mark-in undefined d = d
+
+module _ (G : Lists) where
+  -- one outcome at most at a lexeme or at the end
+  pub single-step : {u ks : List ℕ} {m : Mark} {c : Coming} {out out′ : List Token} {ls ls′ : List ℕ} → Lays G u ks m c out ls → Lays G u ks m c out′ ls′ → (out ≡ out′) × (ls ≡ ls′)
+  single-step {u} {ks} {m} {c} (goes-on {m′ = n} {r = r} a e rest) (goes-on {m′ = n′} {r = s} {out = out′} {ks′ = ls′} b f more) =
+      let same = single-rule G u a b in
+      let marks : n′ ≡ n = ap (λ o. mark-in o m) (sym f ∙ ap onward (sym same) ∙ e) in
+      let moved = subst (λ (x : Mark). Lays G (u ++ inserts r) (leaves r (column c) ks) x c out′ ls′) marks
+      (subst (λ (x : Rule). Lays G (u ++ inserts x) (leaves x (column c) ks) n′ c out′ ls′) (sym same) more) in
+      let both = single-step rest moved in
+      (ap (λ x. map (inserted c) (inserts r) ++ x) (both .0) ∙ ap (λ x. map (inserted c) (inserts x) ++ out′) same, both .1)
+  single-step {u} (goes-on a e rest) (writes b f) = absurd (omega (arith, ap way (sym e ∙ ap onward (single-rule G u a b) ∙ f)))
+  single-step {u} (goes-on a e rest) (ends b f) = absurd (omega (arith, ap way (sym e ∙ ap onward (single-rule G u a b) ∙ f)))
+  single-step {u} (writes a e) (goes-on b f more) = absurd (omega (arith, ap way (sym e ∙ ap onward (single-rule G u a b) ∙ f)))
+  single-step {u} {ks} (writes {l = l} a e) (writes b f) = (refl, ap (λ x. leaves x (l .column) ks) (single-rule G u a b))
+  single-step {u} (ends a e) (goes-on b f more) = absurd (omega (arith, ap way (sym e ∙ ap onward (single-rule G u a b) ∙ f)))
+  single-step (ends a e) (ends b f) = (refl, refl)
+
+  -- one list of tokens at most for a sheet
+  pub single-sheet : {u ks : List ℕ} {b : Before} {ls : List Lexeme} {p : Place} {out out′ : List Token} → Resolves G u ks b ls p out → Resolves G u ks b ls p out′ → out ≡ out′
+  single-sheet (at-end a) (at-end b) = single-step a b .0
+  single-sheet {u} (at-lexeme {b = b} {l = l} {ls = ls} {p = p} {out = out} {ks′ = ks} a rest) (at-lexeme {out = out′} {rest = rest′} {ks′ = ks″} b′ more) =
+      let both = single-step a b′ in
+      let moved = subst (λ (x : List ℕ). Resolves G (u ++ kinds out) x (after (l .kind)) ls p rest′) (sym (both .1)) (subst (λ (x : List Token). Resolves G (u ++ kinds x) ks″ (after (l .kind)) ls p rest′) (sym (both .0)) more) in
+      ap (λ x. out ++ x) (single-sheet rest moved) ∙ ap (λ x. x ++ rest′) (both .0)

@@ -6,10 +6,12 @@ use Rattle.parser.specs.Sets.{Lists}
 use Rattle.sheet.specs.declared.lexeme.Lexeme.{Lexeme}
 use Rattle.sheet.specs.declared.lexeme.Place.{Place}
 use Rattle.sheet.specs.declared.lexeme.Token.{Token}
-use Rattle.layout.specs.Marks.{Coming, after, column, end-mark, ending, inserted, lexeme, mark-of, written}
+use Rattle.layout.specs.Marks.{after, column, end-mark, inserted, mark-of, written}
 use Rattle.layout.specs.Rules.{Applies, Onward, at-mark, ended, inserts, leaves, lexeme-written, onward}
 use Rattle.layout.specs.declared.rule.Before.{Before}
 use Rattle.layout.specs.declared.rule.Before.the-variants.{Nothing}
+use Rattle.layout.specs.declared.rule.Coming.{Coming}
+use Rattle.layout.specs.declared.rule.Coming.the-variants.{Lexeme as lexeme, End as ending}
 use Rattle.layout.specs.declared.rule.Mark.{Mark}
 use Rattle.layout.specs.declared.rule.Rule.{Rule}
 
@@ -20,7 +22,7 @@ kinds ts = map (λ (t : Token). t .kind) ts
 -- the rules over one lexeme, or over the end: from the kinds u, the contexts ks and a mark to the tokens that they write and the contexts that they leave
 pub data Lays (G : Lists) : List ℕ → List ℕ → Mark → Coming → List Token → List ℕ → Type 0 where
   goes-on : {u ks : List ℕ} {m m′ : Mark} {c : Coming} {r : Rule} {out : List Token} {ks′ : List ℕ} → Applies G u m c ks r → onward r ≡ at-mark m′
-    → Lays G (u ++ inserts r) (leaves r (column c) ks) m′ c out ks′ → Lays G u ks m c (map (inserted c) (inserts r) ++ out) ks′
+      → Lays G (u ++ inserts r) (leaves r (column c) ks) m′ c out ks′ → Lays G u ks m c (map (inserted c) (inserts r) ++ out) ks′
   writes : {u ks : List ℕ} {m : Mark} {l : Lexeme} {r : Rule} → Applies G u m (lexeme l) ks r → onward r ≡ lexeme-written → Lays G u ks m (lexeme l) (written l ∷ []) (leaves r (l .column) ks)
   ends : {u ks : List ℕ} {m : Mark} {p : Place} {r : Rule} → Applies G u m (ending p) ks r → onward r ≡ ended → Lays G u ks m (ending p) [] ks
 
@@ -28,7 +30,7 @@ pub data Lays (G : Lists) : List ℕ → List ℕ → Mark → Coming → List T
 pub data Resolves (G : Lists) : List ℕ → List ℕ → Before → List Lexeme → Place → List Token → Type 0 where
   at-end : {u ks : List ℕ} {b : Before} {p : Place} {out : List Token} {ks′ : List ℕ} → Lays G u ks (end-mark b) (ending p) out ks′ → Resolves G u ks b [] p out
   at-lexeme : {u ks : List ℕ} {b : Before} {l : Lexeme} {ls : List Lexeme} {p : Place} {out rest : List Token} {ks′ : List ℕ} → Lays G u ks (mark-of b l) (lexeme l) out ks′
-    → Resolves G (u ++ kinds out) ks′ (after (l .kind)) ls p rest → Resolves G u ks b (l ∷ ls) p (out ++ rest)
+      → Resolves G (u ++ kinds out) ks′ (after (l .kind)) ls p rest → Resolves G u ks b (l ∷ ls) p (out ++ rest)
 
 -- the rules turn a sheet's lexemes into tokens: they end, and wrote these
 abbrev pub Turns : Lists → List Lexeme → Place → List Token → Type 0

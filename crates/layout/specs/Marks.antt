@@ -3,17 +3,13 @@ use mathlib.Core.Bool.{Bool, true, false, cond, _||_}
 use Prim.Native.Nat.{ℕ}
 use lib.Dec.{eqb}
 use Rattle.sheet.specs.declared.lexeme.Lexeme.{Lexeme}
-use Rattle.sheet.specs.declared.lexeme.Place.{Place}
 use Rattle.sheet.specs.declared.lexeme.Token.{Token}
 use Rattle.layout.specs.declared.rule.Before.{Before}
 use Rattle.layout.specs.declared.rule.Before.the-variants.{Nothing, BlockKeyword, Other}
+use Rattle.layout.specs.declared.rule.Coming.{Coming}
+use Rattle.layout.specs.declared.rule.Coming.the-variants.{Lexeme as lexeme, End as ending}
 use Rattle.layout.specs.declared.rule.Mark.{Mark}
 use Rattle.layout.specs.declared.rule.Mark.the-variants.{None, Line, Block}
-
--- a lexeme, or the end of the sheet with its place
-pub data Coming : Type 0 where
-  lexeme : Lexeme → Coming
-  ending : Place → Coming
 
 -- the column by which the rules go: at the end it is 0
 abbrev pub column : Coming → ℕ

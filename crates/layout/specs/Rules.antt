@@ -6,7 +6,9 @@ use Prim.Native.Nat.{ℕ, _<_, _≤_}
 use Rattle.parser.specs.Sets.{Lists, Begins}
 use Rattle.sheet.specs.declared.lexeme.Lexeme.{Lexeme}
 use Rattle.sheet.specs.declared.lexeme.Place.{Place}
-use Rattle.layout.specs.Marks.{Coming, column, ending, lexeme}
+use Rattle.layout.specs.Marks.{column}
+use Rattle.layout.specs.declared.rule.Coming.{Coming}
+use Rattle.layout.specs.declared.rule.Coming.the-variants.{Lexeme as lexeme, End as ending}
 use Rattle.layout.specs.declared.rule.Mark.{Mark}
 use Rattle.layout.specs.declared.rule.Mark.the-variants.{None, Line, Block}
 use Rattle.layout.specs.declared.rule.Rule.{Rule}

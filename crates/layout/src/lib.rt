@@ -3,5 +3,7 @@
 mod rule;
 
 pub use rule::Before;
+pub use rule::Coming;
 pub use rule::Mark;
 pub use rule::Rule;
+pub use rule::rule_at;

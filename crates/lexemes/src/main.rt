@@ -28,7 +28,11 @@ const NO_LEXEME: Lexeme = Lexeme {
 };
 
 // Writes and empties what waits in the queue, and answers how many lexemes that were.
-fn write_waiting<W: Write>(text: &[u8], queue: &mut Queue<'_, Lexeme>, out: &mut W) -> io::Result<u64>
+fn write_waiting<W: Write>(
+    text: &[u8],
+    queue: &mut Queue<'_, Lexeme>,
+    out: &mut W,
+) -> io::Result<u64>
     ensures emptied { λ r. ⌜ made r (λ _. waiting (now (queue .exit)) ≡ []) ⌝ }
     ensures size { λ _. ⌜ capacity (now (queue .exit)) ≡ capacity (now (queue .entry)) ⌝ }
 {

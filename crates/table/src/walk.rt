@@ -8,7 +8,6 @@ ghost use Rattle.std.specs.Options.{Cases as BySome};
 ghost use Rattle.grammar.specs.Grammar.{IsKind};
 ghost use Rattle.table.specs.Stack.{Ends, Never};
 ghost use Rattle.table.specs.Walk.{Further, Met};
-
 use crate::entries::entry;
 use grammar::right_side;
 
@@ -96,7 +95,11 @@ pub fn meet(places: &[u8], top: usize, kind: u32) -> Option<Walk>
     let mut walk = Walk::new(top);
     while let Some(symbol) = walk.next(places) {
         if symbol < NONTERMINAL {
-            return if u32::from(symbol) == kind { Some(walk) } else { None };
+            return if u32::from(symbol) == kind {
+                Some(walk)
+            } else {
+                None
+            };
         }
         let production = entry(symbol, kind);
         if production == 0 {

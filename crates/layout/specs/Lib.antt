@@ -1,4 +1,5 @@
 pub mod First
 pub mod Layout
+pub mod Limits
 pub mod Marks
 pub mod Rules

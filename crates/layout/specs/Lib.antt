@@ -1,3 +1,4 @@
+pub mod Drafts
 pub mod First
 pub mod Layout
 pub mod Limits

@@ -1,0 +1,43 @@
+-- What a call would leave, as the code keeps it. Assumes nothing.
+use mathlib.Core.Path.{_≡_}
+use mathlib.Core.List.{List, [], _∷_, _++_}
+use Prim.Native.Nat.{ℕ, zero, suc, _+_, _-_, _<_, _≤_}
+use lib.ListN.{getD, length}
+use Rattle.std.specs.declared.option.Option.{Option}
+use Rattle.std.specs.declared.option.Option.the-variants.{Some, None}
+use Rattle.std.specs.declared.result.Result.{Result}
+use Rattle.std.specs.declared.result.Result.the-variants.{Ok, Err}
+use Rattle.parser.specs.Meaning.{Alike, Meaning, taken}
+use Rattle.parser.specs.Sets.{Begins}
+use Rattle.parser.specs.declared.Refused.{Refused}
+use Rattle.parser.specs.declared.Refused.the-variants.{NotViable as Unviable, ReachSpent as Spent}
+use Rattle.sheet.specs.declared.fault.Reason.{Reason}
+use Rattle.sheet.specs.declared.fault.Reason.the-variants.{TooDeep, NotViable, ReachSpent}
+use Rattle.layout.specs.Limits.{Room}
+use Rattle.layout.specs.declared.draft.Draft.{Draft}
+
+-- the first d of some contexts, which stand with the outermost first, with the innermost first
+abbrev pub stack : List ℕ → ℕ → List ℕ
+stack cs zero = []
+stack cs (suc d) = getD cs d 0 ∷ stack cs d
+
+-- with one more that the call opened
+abbrev pub with-opened : Option ℕ → List ℕ → List ℕ
+with-opened None ks = ks
+with-opened (Some k) ks = k ∷ ks
+
+-- the contexts that a draft leaves
+abbrev pub contexts-of : List ℕ → Draft → List ℕ
+contexts-of cs d = with-opened (d .opened) (stack cs (d .depth))
+
+-- a parser's refusal as a fault's reason
+abbrev pub reason-of : Refused → Reason
+reason-of Unviable = NotViable
+reason-of Spent = ReachSpent
+
+-- one token, before which the depth and the parser are asked: what it makes of the parser, or why it is not written
+pub data Step (kind depth : ℕ) (before after : Meaning) : Result (Unit {0}) Reason → Type 0 where
+  taken-on : {x : Unit {0}} → Room kind depth → Begins (before .remainder) kind → 0 < before .left → Alike after (taken kind before) → Step kind depth before after (Ok x)
+  too-deep : (Room kind depth → ⊥) → Alike after before → Step kind depth before after (Err TooDeep)
+  not-viable : Room kind depth → (Begins (before .remainder) kind → ⊥) → Alike after before → Step kind depth before after (Err NotViable)
+  reach-spent : Room kind depth → Begins (before .remainder) kind → before .left ≡ 0 → Alike after before → Step kind depth before after (Err ReachSpent)

@@ -1,0 +1,107 @@
+// What a call would leave, kept apart until it is known that all of it fits.
+ghost use mathlib.Core.Path.{_≡_};
+ghost use mathlib.Core.List.{List};
+ghost use Prim.Native.Nat.{ℕ, _+_, _≤_};
+ghost use lib.ListN.{length};
+ghost use Rattle.std.specs.Options.{isSome};
+ghost use Rattle.std.specs.Orderings.{Decides};
+ghost use Rattle.std.specs.declared.option.Option.the-variants.{None as none};
+ghost use Rattle.parser.specs.Meaning.{meaning};
+ghost use Rattle.layout.specs.Drafts.{Step, contexts-of, reason-of};
+ghost use Rattle.layout.specs.First.{innermost-of};
+ghost use Rattle.layout.specs.Limits.{Room};
+ghost use Rattle.layout.specs.Rules.{outer};
+use crate::rule::Rule;
+use parser::Refused;
+use parser::Stepping;
+use sheet::Kind;
+use sheet::Reason;
+
+// At most so many blocks are open.
+pub const MOST_BLOCKS: usize = 64;
+
+#[derive(Clone, Copy)]
+pub struct Draft {
+    // How many contexts of the sheet stay open.
+    pub depth: usize,
+    // The context that the call itself opened, if any; it is the innermost then.
+    pub opened: Option<u32>,
+}
+
+impl Draft {
+    // The innermost context.
+    pub fn innermost(self, contexts: &[u32]) -> Option<u32>
+        requires { ⌜ self .depth ≤ length (now contexts) ⌝ }
+        ensures { λ r. ⌜ r ≡ innermost-of (contexts-of (now (contexts .entry)) self) ⌝ }
+    {
+        if self.opened.is_some() {
+            self.opened
+        } else if self.depth == 0 {
+            None
+        } else {
+            Some(contexts[self.depth - 1])
+        }
+    }
+
+    // How many blocks are open.
+    pub fn blocks(self) -> usize
+        requires { ⌜ self .depth ≤ 64 ⌝ }
+        ensures { λ r. ⌜ ((cs : List ℕ) → r ≡ length (contexts-of cs self)) ⌝ }
+    {
+        if self.opened.is_some() {
+            self.depth + 1
+        } else {
+            self.depth
+        }
+    }
+
+    // Without the innermost block.
+    fn closed(self) -> Draft
+        ensures value { λ r. ⌜ ((cs : List ℕ) → contexts-of cs r ≡ outer (contexts-of cs self)) ⌝ }
+        ensures depth { λ r. ⌜ r .depth ≤ self .depth ⌝ }
+    {
+        if self.opened.is_some() {
+            Draft {
+                depth: self.depth,
+                opened: None,
+            }
+        } else if self.depth == 0 {
+            self
+        } else {
+            Draft {
+                depth: self.depth - 1,
+                opened: None,
+            }
+        }
+    }
+}
+
+// Whether there is room for a token: a `{` opens one block more.
+fn has_room(kind: u32, blocks: usize) -> bool
+    ensures { λ r. ⌜ Decides r (Room kind blocks) ⌝ }
+{
+    kind != Kind::OpenBrace.number() || blocks < MOST_BLOCKS
+}
+
+// A parser's refusal as a fault's reason.
+fn reason_of(refused: Refused) -> Reason
+    ensures { λ r. ⌜ r ≡ reason-of refused ⌝ }
+{
+    match refused {
+        Refused::NotViable => Reason::NotViable,
+        Refused::ReachSpent => Reason::ReachSpent,
+    }
+}
+
+// Has the parser take a token's kind, unless it is a `{` and too many blocks are open.
+pub fn take_token<P: Stepping>(parser: &mut P, kind: u32, blocks: usize) -> Result<(), Reason>
+    ensures { λ r. ⌜ Step kind blocks (meaning (P·Stepping .language) (P·Stepping .reach) (P·Probing .remainder) (P·Stepping .left) (P·Stepping .saved) (now (parser .entry))) (meaning (P·Stepping .language) (P·Stepping .reach) (P·Probing .remainder) (P·Stepping .left) (P·Stepping .saved) (now (parser .exit))) r ⌝ }
+{
+    if !has_room(kind, blocks) {
+        return Err(Reason::TooDeep);
+    }
+    match parser.take(kind) {
+        Ok(()) => Ok(()),
+        Err(refused) => Err(reason_of(refused)),
+    }
+}

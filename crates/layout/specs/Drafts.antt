@@ -1,8 +1,9 @@
 -- What a call would leave, as the code keeps it. Assumes nothing.
 use mathlib.Core.Path.{_≡_}
+use mathlib.Core.Bool.{Bool, true, false}
 use mathlib.Core.List.{List, [], _∷_, _++_}
 use Prim.Native.Nat.{ℕ, zero, suc, _+_, _-_, _<_, _≤_}
-use lib.ListN.{getD, length}
+use lib.ListN.{getD, length, replicate}
 use Rattle.std.specs.declared.option.Option.{Option}
 use Rattle.std.specs.declared.option.Option.the-variants.{Some, None}
 use Rattle.std.specs.declared.result.Result.{Result}
@@ -15,6 +16,8 @@ use Rattle.sheet.specs.declared.fault.Reason.{Reason}
 use Rattle.sheet.specs.declared.fault.Reason.the-variants.{TooDeep, NotViable, ReachSpent}
 use Rattle.layout.specs.Limits.{Room}
 use Rattle.layout.specs.declared.draft.Draft.{Draft}
+use Rattle.layout.specs.declared.rule.Insert.{Insert}
+use Rattle.layout.specs.declared.rule.Insert.the-variants.{Open, Close, Separator}
 
 -- the first d of some contexts, which stand with the outermost first, with the innermost first
 abbrev pub stack : List ℕ → ℕ → List ℕ
@@ -41,3 +44,18 @@ pub data Step (kind depth : ℕ) (before after : Meaning) : Result (Unit {0}) Re
   too-deep : (Room kind depth → ⊥) → Alike after before → Step kind depth before after (Err TooDeep)
   not-viable : Room kind depth → (Begins (before .remainder) kind → ⊥) → Alike after before → Step kind depth before after (Err NotViable)
   reach-spent : Room kind depth → Begins (before .remainder) kind → before .left ≡ 0 → Alike after before → Step kind depth before after (Err ReachSpent)
+
+-- a token or none
+abbrev pub if-set : Bool → ℕ → List ℕ
+if-set true k = k ∷ []
+if-set false k = []
+
+-- the kinds of the tokens that a draft inserts
+abbrev pub tokens-of : Draft → List ℕ
+tokens-of d = if-set (d .brace) 3 ++ (replicate (d .closes) 4 ++ (if-set (d .separator) 5 ++ replicate (d .«closes_after») 4))
+
+-- which token a draft can insert behind the others
+abbrev pub Next : Draft → Insert → Type 0
+Next d Open = (d .brace ≡ false) × (d .closes ≡ 0) × (d .separator ≡ false) × (d .«closes_after» ≡ 0)
+Next d Close = Unit {0}
+Next d Separator = (d .separator ≡ false) × (d .«closes_after» ≡ 0)

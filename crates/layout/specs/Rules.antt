@@ -1,6 +1,6 @@
 -- Which rule comes first, and what each rule does. A context is the column of an implicit block, or 0 for an explicit one. Assumes nothing.
 use mathlib.Core.Path.{_≡_}
-use mathlib.Core.List.{List, [], _∷_, _++_}
+use mathlib.Core.List.{List, [], _∷_, _++_, map}
 use mathlib.Core.Logic.{_⊎_}
 use Prim.Native.Nat.{ℕ, _<_, _≤_}
 use Rattle.parser.specs.Sets.{Lists, Begins}
@@ -9,6 +9,8 @@ use Rattle.sheet.specs.declared.lexeme.Place.{Place}
 use Rattle.layout.specs.Marks.{column}
 use Rattle.layout.specs.declared.rule.Coming.{Coming}
 use Rattle.layout.specs.declared.rule.Coming.the-variants.{Lexeme as lexeme, End as ending}
+use Rattle.layout.specs.declared.rule.Insert.{Insert}
+use Rattle.layout.specs.declared.rule.Insert.the-variants.{Open, Close, Separator}
 use Rattle.layout.specs.declared.rule.Mark.{Mark}
 use Rattle.layout.specs.declared.rule.Mark.the-variants.{None, Line, Block}
 use Rattle.layout.specs.declared.rule.Rule.{Rule}
@@ -54,21 +56,31 @@ pub data Applies (G : Lists) (u : List ℕ) : Mark → Coming → List ℕ → R
   end : {p : Place} → Applies G u None (ending p) [] End
   block-left-open : {p : Place} {k : ℕ} {ks : List ℕ} → k ≡ 0 → Applies G u None (ending p) (k ∷ ks) BlockLeftOpen
 
--- the kinds that a rule inserts
+-- the kind of a token that a rule inserts
+abbrev pub insert-kind : Insert → ℕ
+insert-kind Open = 3
+insert-kind Close = 4
+insert-kind Separator = 5
+
+-- the tokens that a rule inserts
+abbrev pub inserting : Rule → List Insert
+inserting Separate = Separator ∷ []
+inserting CloseShallower = Close ∷ []
+inserting DropMark = []
+inserting OpenBlock = Open ∷ []
+inserting EmptyBlock = Open ∷ Close ∷ []
+inserting CloseTyped = []
+inserting StrayClose = []
+inserting OpenTyped = []
+inserting CloseOnError = Close ∷ []
+inserting WriteLexeme = []
+inserting CloseAtEnd = Close ∷ []
+inserting End = []
+inserting BlockLeftOpen = []
+
+-- and their kinds
 abbrev pub inserts : Rule → List ℕ
-inserts Separate = 5 ∷ []
-inserts CloseShallower = 4 ∷ []
-inserts DropMark = []
-inserts OpenBlock = 3 ∷ []
-inserts EmptyBlock = 3 ∷ 4 ∷ []
-inserts CloseTyped = []
-inserts StrayClose = []
-inserts OpenTyped = []
-inserts CloseOnError = 4 ∷ []
-inserts WriteLexeme = []
-inserts CloseAtEnd = 4 ∷ []
-inserts End = []
-inserts BlockLeftOpen = []
+inserts r = map insert-kind (inserting r)
 
 -- the contexts but the innermost
 abbrev pub outer : List ℕ → List ℕ

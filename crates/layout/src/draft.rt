@@ -1,17 +1,17 @@
 // What a call would leave, kept apart until it is known that all of it fits.
 ghost use mathlib.Core.Path.{_≡_};
-ghost use mathlib.Core.List.{List};
-ghost use Prim.Native.Nat.{ℕ, _+_, _≤_};
+ghost use mathlib.Core.List.{List, [], _∷_, _++_};
+ghost use Prim.Native.Nat.{ℕ, _+_, _^_, _<_, _≤_};
 ghost use lib.ListN.{length};
 ghost use Rattle.std.specs.Options.{isSome};
 ghost use Rattle.std.specs.Orderings.{Decides};
 ghost use Rattle.std.specs.declared.option.Option.the-variants.{None as none};
 ghost use Rattle.parser.specs.Meaning.{meaning};
-ghost use Rattle.layout.specs.Drafts.{Step, contexts-of, reason-of};
+ghost use Rattle.layout.specs.Drafts.{Next, Step, contexts-of, reason-of, tokens-of};
 ghost use Rattle.layout.specs.First.{innermost-of};
 ghost use Rattle.layout.specs.Limits.{Room};
-ghost use Rattle.layout.specs.Rules.{outer};
-use crate::rule::Rule;
+ghost use Rattle.layout.specs.Rules.{insert-kind, outer};
+use crate::rule::Insert;
 use parser::Refused;
 use parser::Stepping;
 use sheet::Kind;
@@ -26,6 +26,11 @@ pub struct Draft {
     pub depth: usize,
     // The context that the call itself opened, if any; it is the innermost then.
     pub opened: Option<u32>,
+    // The tokens that the call inserts: a `{` or none, some `}`, a `;` or none, and some `}` again.
+    pub brace: bool,
+    pub closes: u32,
+    pub separator: bool,
+    pub closes_after: u32,
 }
 
 impl Draft {
@@ -59,11 +64,12 @@ impl Draft {
     fn closed(self) -> Draft
         ensures value { λ r. ⌜ ((cs : List ℕ) → contexts-of cs r ≡ outer (contexts-of cs self)) ⌝ }
         ensures depth { λ r. ⌜ r .depth ≤ self .depth ⌝ }
+        ensures tokens { λ r. ⌜ tokens-of r ≡ tokens-of self ⌝ }
     {
         if self.opened.is_some() {
             Draft {
-                depth: self.depth,
                 opened: None,
+                ..self
             }
         } else if self.depth == 0 {
             self
@@ -71,6 +77,46 @@ impl Draft {
             Draft {
                 depth: self.depth - 1,
                 opened: None,
+                ..self
+            }
+        }
+    }
+
+    // With a token inserted behind the others: a `{` only before all others, a `;` only once.
+    pub fn with(self, token: Insert) -> Draft
+        requires order { ⌜ Next self token ⌝ }
+        requires few { ⌜ self .closes < 2 ^ 31 ⌝ ∗ ⌜ self .«closes_after» < 2 ^ 31 ⌝ }
+        ensures tokens { λ r. ⌜ tokens-of r ≡ tokens-of self ++ insert-kind token ∷ [] ⌝ }
+        ensures contexts { λ r. ⌜ ((cs : List ℕ) → contexts-of cs r ≡ contexts-of cs self) ⌝ }
+    {
+        match token {
+            Insert::Open => Draft {
+                brace: true,
+                ..self
+            },
+            Insert::Separator => Draft {
+                separator: true,
+                ..self
+            },
+            Insert::Close => self.with_close(),
+        }
+    }
+
+    // With a `}` inserted behind the others.
+    fn with_close(self) -> Draft
+        requires few { ⌜ self .closes < 2 ^ 31 ⌝ ∗ ⌜ self .«closes_after» < 2 ^ 31 ⌝ }
+        ensures tokens { λ r. ⌜ tokens-of r ≡ tokens-of self ++ 4 ∷ [] ⌝ }
+        ensures contexts { λ r. ⌜ ((cs : List ℕ) → contexts-of cs r ≡ contexts-of cs self) ⌝ }
+    {
+        if self.separator {
+            Draft {
+                closes_after: self.closes_after + 1,
+                ..self
+            }
+        } else {
+            Draft {
+                closes: self.closes + 1,
+                ..self
             }
         }
     }

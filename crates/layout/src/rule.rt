@@ -5,11 +5,12 @@ ghost use Prim.Native.Nat.{ℕ};
 ghost use Rattle.layout.specs.Marks.{column};
 ghost use Rattle.std.specs.Orderings.{Decides};
 ghost use Rattle.layout.specs.First.{block-rule, close-rule, end-rule, innermost-of, line-rule};
+ghost use Rattle.sheet.specs.Kinds.{kind-number};
 ghost use Rattle.sheet.specs.declared.lexeme.Lexeme.{Lexeme as Typed};
 ghost use Rattle.layout.specs.declared.rule.Coming.the-variants.{Lexeme as lexeme};
 ghost use Rattle.layout.specs.declared.rule.Mark.the-variants.{None as none};
 ghost use Rattle.layout.specs.declared.rule.Rule.{Rule};
-ghost use Rattle.layout.specs.Rules.{Applies, MustClose};
+ghost use Rattle.layout.specs.Rules.{Applies, MustClose, insert-kind};
 use parser::Probing;
 use sheet::Kind;
 use sheet::Lexeme;
@@ -65,6 +66,26 @@ pub enum Rule {
     CloseAtEnd,
     End,
     BlockLeftOpen,
+}
+
+// A token that a rule inserts.
+#[derive(Clone, Copy, Debug, PartialEq, Eq)]
+pub enum Insert {
+    Open,
+    Close,
+    Separator,
+}
+
+impl Insert {
+    pub fn kind(self) -> Kind
+        ensures { λ r. ⌜ kind-number r ≡ insert-kind self ⌝ }
+    {
+        match self {
+            Insert::Open => Kind::OpenBrace,
+            Insert::Close => Kind::CloseBrace,
+            Insert::Separator => Kind::Semicolon,
+        }
+    }
 }
 
 impl Coming {

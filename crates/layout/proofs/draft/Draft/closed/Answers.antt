@@ -1,4 +1,4 @@
-use mathlib.Core.Path.{ap, sym, _∙_}
+use mathlib.Core.Path.{refl, ap, sym, _∙_}
 use native.Mathlib.Omega.{arith}
 use Rattle.layout.specs.Rules.{outer}
 use Rattle.layout.proofs.Stacks.{opened-none, stack-more}
@@ -9,4 +9,5 @@ returns-else-self-eq0 c =
     record {
       value = λ cs. sym (ap outer (opened-none (c .args .self .opened) _ (sym (c .if-is-some .ensures tt)) ∙ stack-more cs (c .args .self .depth) (c .if-self-eq0 .left)));
       depth = omega arith;
+      tokens = refl;
     }

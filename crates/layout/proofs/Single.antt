@@ -9,12 +9,14 @@ use Rattle.sheet.specs.declared.lexeme.Place.{Place}
 use Rattle.sheet.specs.declared.lexeme.Token.{Token}
 use Rattle.layout.specs.Layout.{Lays, Resolves, at-end, at-lexeme, ends, goes-on, kinds, writes}
 use Rattle.layout.specs.Marks.{after, column, end-mark, inserted, mark-of, written}
-use Rattle.layout.specs.Rules.{Applies, Explicit, MustClose, Onward, Plain, at-mark, block-left-open, close-at-end, close-on-error, close-shallower, close-typed, drop-deeper, drop-outside, empty-block, end, ended, inserts, leaves, lexeme-written, onward, open-block, open-typed, separate, stray-close, undefined, write-lexeme}
+use Rattle.layout.specs.Rules.{Applies, Explicit, MustClose, Plain, block-left-open, close-at-end, close-on-error, close-shallower, close-typed, drop-deeper, drop-outside, empty-block, end, inserts, leaves, onward, open-block, open-typed, separate, stray-close, write-lexeme}
 use Rattle.layout.specs.declared.rule.Before.{Before}
 use Rattle.layout.specs.declared.rule.Coming.{Coming}
 use Rattle.layout.specs.declared.rule.Coming.the-variants.{Lexeme as lexeme, End as ending}
 use Rattle.layout.specs.declared.rule.Mark.{Mark}
 use Rattle.layout.specs.declared.rule.Mark.the-variants.{None, Line, Block}
+use Rattle.layout.specs.declared.rule.Onward.{Onward}
+use Rattle.layout.specs.declared.rule.Onward.the-variants.{Mark as at-mark, Lexeme as lexeme-written, End as ended, Undefined as undefined}
 use Rattle.layout.specs.declared.rule.Rule.{Rule}
 use Rattle.layout.specs.declared.rule.Rule.the-variants.{Separate, CloseShallower, DropMark, OpenBlock, EmptyBlock, CloseTyped, StrayClose, OpenTyped, CloseOnError, WriteLexeme, CloseAtEnd, End, BlockLeftOpen}
 

@@ -1,20 +1,22 @@
 -- What a call would leave, as the code keeps it. Assumes nothing.
 use mathlib.Core.Path.{_≡_}
 use mathlib.Core.Bool.{Bool, true, false}
-use mathlib.Core.List.{List, [], _∷_, _++_}
+use mathlib.Core.List.{List, [], _∷_, _++_, map}
 use Prim.Native.Nat.{ℕ, zero, suc, _+_, _-_, _<_, _≤_}
 use lib.ListN.{getD, length, replicate}
 use Rattle.std.specs.declared.option.Option.{Option}
 use Rattle.std.specs.declared.option.Option.the-variants.{Some, None}
 use Rattle.std.specs.declared.result.Result.{Result}
 use Rattle.std.specs.declared.result.Result.the-variants.{Ok, Err}
-use Rattle.parser.specs.Meaning.{Alike, Meaning, taken}
-use Rattle.parser.specs.Sets.{Begins}
+use Rattle.parser.specs.Meaning.{Alike, Meaning, SameMark, taken}
+use Rattle.parser.specs.Runs.{after}
+use Rattle.parser.specs.Sets.{Begins, Same}
 use Rattle.parser.specs.declared.Refused.{Refused}
 use Rattle.parser.specs.declared.Refused.the-variants.{NotViable as Unviable, ReachSpent as Spent}
 use Rattle.sheet.specs.declared.fault.Reason.{Reason}
 use Rattle.sheet.specs.declared.fault.Reason.the-variants.{TooDeep, NotViable, ReachSpent}
-use Rattle.layout.specs.Limits.{Room}
+use Rattle.layout.specs.Limits.{Goes, Room}
+use Rattle.layout.specs.Rules.{insert-kind}
 use Rattle.layout.specs.declared.draft.Draft.{Draft}
 use Rattle.layout.specs.declared.rule.Insert.{Insert}
 use Rattle.layout.specs.declared.rule.Insert.the-variants.{Open, Close, Separator}
@@ -59,3 +61,24 @@ abbrev pub Next : Draft → Insert → Type 0
 Next d Open = (d .brace ≡ false) × (d .closes ≡ 0) × (d .separator ≡ false) × (d .«closes_after» ≡ 0)
 Next d Close = Unit {0}
 Next d Separator = (d .separator ≡ false) × (d .«closes_after» ≡ 0)
+
+-- which tokens a draft can insert one after another: only `}` come behind the first
+abbrev pub AllClose : List Insert → Type 0
+AllClose [] = Unit {0}
+AllClose (t ∷ ts) = (t ≡ Close) × AllClose ts
+
+abbrev pub NextAll : Draft → List Insert → Type 0
+NextAll d [] = Unit {0}
+NextAll d (t ∷ ts) = Next d t × AllClose ts
+
+-- the parser as it was for life, with its mark
+pub record Bound (after before : Meaning) : Type 0 where
+  pub language : Same (after .language) (before .language)
+  pub reach : after .reach ≡ before .reach
+  pub mark : SameMark (after .mark) (before .mark)
+
+-- tokens taken one after another and drafted, or why one is not
+pub data Inserted (ts : List Insert) (depth : ℕ) (d : Draft) (before now : Meaning) : Result Draft Reason → Type 0 where
+  drafted : {e : Draft} → Goes (before .remainder) depth [] (before .left) (map insert-kind ts) (Ok (now .left)) → Alike now (after (map insert-kind ts) before)
+      → tokens-of e ≡ tokens-of d ++ map insert-kind ts → e .depth ≡ d .depth → e .opened ≡ d .opened → Inserted ts depth d before now (Ok e)
+  refused : {why : Reason} → Goes (before .remainder) depth [] (before .left) (map insert-kind ts) (Err why) → Bound now before → Inserted ts depth d before now (Err why)

@@ -7,12 +7,14 @@ use Rattle.sheet.specs.declared.lexeme.Lexeme.{Lexeme}
 use Rattle.sheet.specs.declared.lexeme.Place.{Place}
 use Rattle.sheet.specs.declared.lexeme.Token.{Token}
 use Rattle.layout.specs.Marks.{after, column, end-mark, inserted, mark-of, written}
-use Rattle.layout.specs.Rules.{Applies, Onward, at-mark, ended, inserts, leaves, lexeme-written, onward}
+use Rattle.layout.specs.Rules.{Applies, inserts, leaves, onward}
 use Rattle.layout.specs.declared.rule.Before.{Before}
 use Rattle.layout.specs.declared.rule.Before.the-variants.{Nothing}
 use Rattle.layout.specs.declared.rule.Coming.{Coming}
 use Rattle.layout.specs.declared.rule.Coming.the-variants.{Lexeme as lexeme, End as ending}
 use Rattle.layout.specs.declared.rule.Mark.{Mark}
+use Rattle.layout.specs.declared.rule.Onward.{Onward}
+use Rattle.layout.specs.declared.rule.Onward.the-variants.{Mark as at-mark, Lexeme as lexeme-written, End as ended, Undefined as undefined}
 use Rattle.layout.specs.declared.rule.Rule.{Rule}
 
 -- the kinds of some tokens

@@ -12,10 +12,12 @@ use Rattle.sheet.specs.declared.lexeme.Lexeme.{Lexeme}
 use Rattle.sheet.specs.declared.lexeme.Place.{Place}
 use Rattle.sheet.specs.declared.lexeme.Token.{Token}
 use Rattle.layout.specs.Marks.{column, inserted, written}
-use Rattle.layout.specs.Rules.{Applies, Viable, at-mark, ended, inserts, leaves, lexeme-written, onward, undefined}
+use Rattle.layout.specs.Rules.{Applies, Viable, inserts, leaves, onward}
 use Rattle.layout.specs.declared.rule.Coming.{Coming}
 use Rattle.layout.specs.declared.rule.Coming.the-variants.{Lexeme as lexeme, End as ending}
 use Rattle.layout.specs.declared.rule.Mark.{Mark}
+use Rattle.layout.specs.declared.rule.Onward.{Onward}
+use Rattle.layout.specs.declared.rule.Onward.the-variants.{Mark as at-mark, Lexeme as lexeme-written, End as ended, Undefined as undefined}
 use Rattle.layout.specs.declared.rule.Rule.{Rule}
 
 -- at most 64 blocks are open, so a { needs room for one more

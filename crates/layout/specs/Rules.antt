@@ -1,5 +1,6 @@
 -- Which rule comes first, and what each rule does. A context is the column of an implicit block, or 0 for an explicit one. Assumes nothing.
 use mathlib.Core.Path.{_≡_}
+use mathlib.Core.Bool.{Bool, true, false}
 use mathlib.Core.List.{List, [], _∷_, _++_, map}
 use mathlib.Core.Logic.{_⊎_}
 use Prim.Native.Nat.{ℕ, _<_, _≤_}
@@ -13,6 +14,8 @@ use Rattle.layout.specs.declared.rule.Insert.{Insert}
 use Rattle.layout.specs.declared.rule.Insert.the-variants.{Open, Close, Separator}
 use Rattle.layout.specs.declared.rule.Mark.{Mark}
 use Rattle.layout.specs.declared.rule.Mark.the-variants.{None, Line, Block}
+use Rattle.layout.specs.declared.rule.Onward.{Onward}
+use Rattle.layout.specs.declared.rule.Onward.the-variants.{Mark as at-mark, Lexeme as lexeme-written, End as ended, Undefined as undefined}
 use Rattle.layout.specs.declared.rule.Rule.{Rule}
 use Rattle.layout.specs.declared.rule.Rule.the-variants.{Separate, CloseShallower, DropMark, OpenBlock, EmptyBlock, CloseTyped, StrayClose, OpenTyped, CloseOnError, WriteLexeme, CloseAtEnd, End, BlockLeftOpen}
 
@@ -103,13 +106,7 @@ leaves CloseAtEnd n ks = outer ks
 leaves End n ks = ks
 leaves BlockLeftOpen n ks = ks
 
--- how it goes on: with another mark before the same, with the lexeme written, with the end reached, or not at all
-pub data Onward : Type 0 where
-  at-mark : Mark → Onward
-  lexeme-written : Onward
-  ended : Onward
-  undefined : Onward
-
+-- how it goes on: at another mark before the same, with the lexeme written, with the end reached, or not at all
 abbrev pub onward : Rule → Onward
 onward Separate = at-mark None
 onward CloseShallower = at-mark Line
@@ -124,3 +121,19 @@ onward WriteLexeme = lexeme-written
 onward CloseAtEnd = at-mark None
 onward End = ended
 onward BlockLeftOpen = undefined
+
+-- the rules that open a block
+abbrev pub opening : Rule → Bool
+opening Separate = false
+opening CloseShallower = false
+opening DropMark = false
+opening OpenBlock = true
+opening EmptyBlock = false
+opening CloseTyped = false
+opening StrayClose = false
+opening OpenTyped = true
+opening CloseOnError = false
+opening WriteLexeme = false
+opening CloseAtEnd = false
+opening End = false
+opening BlockLeftOpen = false

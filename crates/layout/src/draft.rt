@@ -1,5 +1,6 @@
 // What a call would leave, kept apart until it is known that all of it fits.
 ghost use mathlib.Core.Path.{_≡_};
+ghost use mathlib.Core.Bool.{true, false};
 ghost use mathlib.Core.List.{List, [], _∷_, _++_};
 ghost use Prim.Native.Nat.{ℕ, _+_, _^_, _<_, _≤_};
 ghost use lib.ListN.{length};
@@ -7,11 +8,12 @@ ghost use Rattle.std.specs.Options.{isSome};
 ghost use Rattle.std.specs.Orderings.{Decides};
 ghost use Rattle.std.specs.declared.option.Option.the-variants.{None as none};
 ghost use Rattle.parser.specs.Meaning.{meaning};
-ghost use Rattle.layout.specs.Drafts.{Next, Step, contexts-of, reason-of, tokens-of};
+ghost use Rattle.layout.specs.Drafts.{Inserted, Next, NextAll, Step, contexts-of, reason-of, tokens-of};
 ghost use Rattle.layout.specs.First.{innermost-of};
 ghost use Rattle.layout.specs.Limits.{Room};
-ghost use Rattle.layout.specs.Rules.{insert-kind, outer};
+ghost use Rattle.layout.specs.Rules.{insert-kind, leaves, opening, outer};
 use crate::rule::Insert;
+use crate::rule::Rule;
 use parser::Refused;
 use parser::Stepping;
 use sheet::Kind;
@@ -65,6 +67,7 @@ impl Draft {
         ensures value { λ r. ⌜ ((cs : List ℕ) → contexts-of cs r ≡ outer (contexts-of cs self)) ⌝ }
         ensures depth { λ r. ⌜ r .depth ≤ self .depth ⌝ }
         ensures tokens { λ r. ⌜ tokens-of r ≡ tokens-of self ⌝ }
+        ensures opened { λ r. ⌜ isSome (r .opened) ≡ false ⌝ }
     {
         if self.opened.is_some() {
             Draft {
@@ -82,12 +85,35 @@ impl Draft {
         }
     }
 
+    // After a rule, at a column.
+    pub fn after(self, rule: Rule, column: u32) -> Draft
+        requires single { ⌜ (opening rule ≡ true → isSome (self .opened) ≡ false) ⌝ }
+        ensures contexts { λ r. ⌜ ((cs : List ℕ) → contexts-of cs r ≡ leaves rule column (contexts-of cs self)) ⌝ }
+        ensures depth { λ r. ⌜ r .depth ≤ self .depth ⌝ }
+        ensures tokens { λ r. ⌜ tokens-of r ≡ tokens-of self ⌝ }
+        ensures opened { λ r. ⌜ (opening rule ≡ false → isSome (r .opened) ≡ true → isSome (self .opened) ≡ true) ⌝ }
+    {
+        match rule {
+            Rule::CloseShallower | Rule::CloseOnError | Rule::CloseAtEnd | Rule::CloseTyped =>
+                self.closed(),
+            Rule::OpenBlock => Draft {
+                opened: Some(column),
+                ..self
+            },
+            Rule::OpenTyped => Draft {
+                opened: Some(0),
+                ..self
+            },
+            _ => self,
+        }
+    }
+
     // With a token inserted behind the others: a `{` only before all others, a `;` only once.
     pub fn with(self, token: Insert) -> Draft
         requires order { ⌜ Next self token ⌝ }
-        requires few { ⌜ self .closes < 2 ^ 31 ⌝ ∗ ⌜ self .«closes_after» < 2 ^ 31 ⌝ }
+        requires few { ⌜ length (tokens-of self) < 2 ^ 31 ⌝ }
         ensures tokens { λ r. ⌜ tokens-of r ≡ tokens-of self ++ insert-kind token ∷ [] ⌝ }
-        ensures contexts { λ r. ⌜ ((cs : List ℕ) → contexts-of cs r ≡ contexts-of cs self) ⌝ }
+        ensures contexts { λ r. ⌜ (r .depth ≡ self .depth) × (r .opened ≡ self .opened) ⌝ }
     {
         match token {
             Insert::Open => Draft {
@@ -104,9 +130,9 @@ impl Draft {
 
     // With a `}` inserted behind the others.
     fn with_close(self) -> Draft
-        requires few { ⌜ self .closes < 2 ^ 31 ⌝ ∗ ⌜ self .«closes_after» < 2 ^ 31 ⌝ }
+        requires few { ⌜ length (tokens-of self) < 2 ^ 31 ⌝ }
         ensures tokens { λ r. ⌜ tokens-of r ≡ tokens-of self ++ 4 ∷ [] ⌝ }
-        ensures contexts { λ r. ⌜ ((cs : List ℕ) → contexts-of cs r ≡ contexts-of cs self) ⌝ }
+        ensures contexts { λ r. ⌜ (r .depth ≡ self .depth) × (r .opened ≡ self .opened) ⌝ }
     {
         if self.separator {
             Draft {
@@ -150,4 +176,23 @@ pub fn take_token<P: Stepping>(parser: &mut P, kind: u32, blocks: usize) -> Resu
         Ok(()) => Ok(()),
         Err(refused) => Err(reason_of(refused)),
     }
+}
+
+// Has the parser take inserted tokens one after another, and drafts them.
+pub fn insert_all<P: Stepping>(
+    parser: &mut P,
+    tokens: &[Insert],
+    blocks: usize,
+    draft: Draft,
+) -> Result<Draft, Reason>
+    requires order { ⌜ NextAll draft (now tokens) ⌝ }
+    requires few { ⌜ length (tokens-of draft) + length (now tokens) < 2 ^ 31 ⌝ }
+    ensures { λ r. ⌜ Inserted (now (tokens .entry)) blocks draft (meaning (P·Stepping .language) (P·Stepping .reach) (P·Probing .remainder) (P·Stepping .left) (P·Stepping .saved) (now (parser .entry))) (meaning (P·Stepping .language) (P·Stepping .reach) (P·Probing .remainder) (P·Stepping .left) (P·Stepping .saved) (now (parser .exit))) r ⌝ }
+{
+    let mut drafted = draft;
+    for token in tokens {
+        take_token(parser, token.kind().number(), blocks)?;
+        drafted = drafted.with(*token);
+    }
+    Ok(drafted)
 }

@@ -10,7 +10,7 @@ ghost use Rattle.sheet.specs.declared.lexeme.Lexeme.{Lexeme as Typed};
 ghost use Rattle.layout.specs.declared.rule.Coming.the-variants.{Lexeme as lexeme};
 ghost use Rattle.layout.specs.declared.rule.Mark.the-variants.{None as none};
 ghost use Rattle.layout.specs.declared.rule.Rule.{Rule};
-ghost use Rattle.layout.specs.Rules.{Applies, MustClose, insert-kind};
+ghost use Rattle.layout.specs.Rules.{Applies, MustClose, insert-kind, inserting, onward};
 use parser::Probing;
 use sheet::Kind;
 use sheet::Lexeme;
@@ -74,6 +74,48 @@ pub enum Insert {
     Open,
     Close,
     Separator,
+}
+
+// How it goes on after a rule: at another mark before the same, with the lexeme written, with the end reached, or not
+// at all.
+#[derive(Clone, Copy, Debug, PartialEq, Eq)]
+pub enum Onward {
+    Mark(Mark),
+    Lexeme,
+    End,
+    Undefined,
+}
+
+impl Rule {
+    // The tokens that the rule inserts.
+    pub fn inserting(self) -> &'static [Insert]
+        ensures { λ r. ⌜ now r ≡ inserting self ⌝ }
+    {
+        match self {
+            Rule::Separate => &[Insert::Separator],
+            Rule::OpenBlock => &[Insert::Open],
+            Rule::EmptyBlock => &[Insert::Open, Insert::Close],
+            Rule::CloseShallower | Rule::CloseOnError | Rule::CloseAtEnd => &[Insert::Close],
+            _ => &[],
+        }
+    }
+
+    // How it goes on after the rule.
+    pub fn onward(self) -> Onward
+        ensures { λ r. ⌜ r ≡ onward self ⌝ }
+    {
+        match self {
+            Rule::CloseShallower | Rule::EmptyBlock => Onward::Mark(Mark::Line),
+            Rule::Separate
+            | Rule::DropMark
+            | Rule::OpenBlock
+            | Rule::CloseOnError
+            | Rule::CloseAtEnd => Onward::Mark(Mark::None),
+            Rule::CloseTyped | Rule::OpenTyped | Rule::WriteLexeme => Onward::Lexeme,
+            Rule::End => Onward::End,
+            Rule::StrayClose | Rule::BlockLeftOpen => Onward::Undefined,
+        }
+    }
 }
 
 impl Insert {

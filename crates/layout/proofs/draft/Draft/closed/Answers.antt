@@ -10,4 +10,5 @@ returns-else-self-eq0 c =
       value = λ cs. sym (ap outer (opened-none (c .args .self .opened) _ (sym (c .if-is-some .ensures tt)) ∙ stack-more cs (c .args .self .depth) (c .if-self-eq0 .left)));
       depth = omega arith;
       tokens = refl;
+      opened = refl;
     }

@@ -1,11 +1,12 @@
 -- Tokens inserted one after another. Assumes nothing.
 use mathlib.Core.Path.{_≡_, refl, sym, ap, subst, _∙_}
-use mathlib.Core.Bool.{Bool, true, false}
+use mathlib.Core.Bool.{Bool, true, false, not}
 use mathlib.Core.List.{List, [], _∷_, _++_, map}
 use Prim.Native.Nat.{ℕ, zero, suc, _+_, _-_, _<_, _≤_}
 use native.Mathlib.Omega.{arith}
 use lib.ListN.{drop, getD, length, length-append, length-replicate, replicate, take}
 use Rattle.std.proofs.shelf.Lists.{append-assoc, append-nil, drop-all, drop-map, drop-more, getD-map, length-map, take-all, take-more}
+use Rattle.std.proofs.shelf.Tests.{and-parts, not-true}
 use Rattle.std.specs.declared.result.Result.{Result}
 use Rattle.std.specs.declared.result.Result.the-variants.{Ok, Err}
 use Rattle.parser.specs.Meaning.{Alike, Meaning, taken}
@@ -15,7 +16,7 @@ use Rattle.parser.proofs.Meanings.{begins-same, mark-sym, mark-trans, same-sym,
 use Rattle.parser.proofs.Steps.{after-more, after-none}
 use Rattle.sheet.specs.declared.fault.Reason.{Reason}
 use Rattle.sheet.specs.declared.fault.Reason.the-variants.{TooDeep, NotViable, ReachSpent}
-use Rattle.layout.specs.Drafts.{AllClose, Bound, Inserted, Next, NextAll, Step, drafted, if-set, not-viable, reach-spent, refused, taken-on, tokens-of, too-deep}
+use Rattle.layout.specs.Drafts.{AllClose, Bound, Inserted, Next, NextAll, Row, Step, drafted, if-set, is-separator, no-separator, not-viable, reach-spent, refused, taken-on, tokens-of, too-deep}
 use Rattle.layout.specs.Limits.{Goes, done, goes, not-viable as goes-not-viable, reach-spent as goes-reach-spent, too-deep as goes-too-deep}
 use Rattle.layout.specs.Rules.{insert-kind}
 use Rattle.layout.specs.declared.draft.Draft.{Draft}
@@ -55,9 +56,10 @@ pub record Inserting (ts : List Insert) (depth : ℕ) (d : Draft) (from now : Me
   pub tokens : tokens-of e ≡ tokens-of d ++ take i (map insert-kind ts)
   pub contexts : (e .depth ≡ d .depth) × (e .opened ≡ d .opened)
   pub order : NextAll e (drop i ts)
+  pub row : no-separator ts ≡ true → d .separator ≡ false → Row d e
 
 pub inserting-none : (ts : List Insert) (depth : ℕ) (d : Draft) (m : Meaning) → NextAll d ts → Inserting ts depth d m m d 0
-inserting-none ts depth d m order = record { steps = after-none m; goes = λ o g. g; tokens = sym (append-nil _); contexts = (refl, refl); order = order }
+inserting-none ts depth d m order = record { steps = after-none m; goes = λ o g. g; tokens = sym (append-nil _); contexts = (refl, refl); order = order; row = λ n e. (e, refl) }
 
 -- only closes come behind the first
 close-next : (e : Draft) (ts : List Insert) → AllClose ts → NextAll e ts
@@ -69,6 +71,12 @@ step-leaves : (kind depth : ℕ) (m n : Meaning) (why : Reason) → Step kind de
 step-leaves kind depth m n why (too-deep no-room same) = same
 step-leaves kind depth m n why (not-viable room not same) = same
 step-leaves kind depth m n why (reach-spent room begins none same) = same
+
+-- none of the tokens is a separator
+separator-at : (ts : List Insert) (i : ℕ) (t : Insert) → i < length ts → no-separator ts ≡ true → is-separator (getD ts i t) ≡ false
+separator-at [] i t h none = absurd (omega arith)
+separator-at (x ∷ ts) zero t h none = not-true (is-separator x) (and-parts (not (is-separator x)) (no-separator ts) none .0)
+separator-at (x ∷ ts) (suc i) t h none = separator-at ts i t (omega arith) (and-parts (not (is-separator x)) (no-separator ts) none .1)
 
 module _ (ts : List Insert) (depth : ℕ) (d : Draft) (from m : Meaning) (e : Draft) (i : ℕ) (t : Insert) (so : Inserting ts depth d from m e i) (h : i < length ts) (is : t ≡ getD ts i t) where
   -- the token that comes next
@@ -90,8 +98,9 @@ module _ (ts : List Insert) (depth : ℕ) (d : Draft) (from m : Meaning) (e : Dr
       refused (so .goes (Err why) (subst (λ w. Goes (from .remainder) depth (take i (map insert-kind ts)) (m .left) w (Err why)) (sym next-kind) (step-stops (insert-kind t) depth (take i (map insert-kind ts)) from m n _ why (so .steps) s)))
       (record { language = same-trans (left .language) (so .steps .language); reach = left .reach ∙ so .steps .reach; mark = mark-trans (n .mark) (m .mark) (from .mark) (left .mark) (so .steps .mark) })
 
-  pub inserting-more : (n : Meaning) (e′ : Draft) → Step (insert-kind t) depth m n (Ok tt) → tokens-of e′ ≡ tokens-of e ++ insert-kind t ∷ [] → (e′ .depth ≡ e .depth) × (e′ .opened ≡ e .opened) → Inserting ts depth d from n e′ (i + 1)
-  inserting-more n e′ s tokens same =
+  pub inserting-more : (n : Meaning) (e′ : Draft) → Step (insert-kind t) depth m n (Ok tt) → tokens-of e′ ≡ tokens-of e ++ insert-kind t ∷ [] → (e′ .depth ≡ e .depth) × (e′ .opened ≡ e .opened)
+    → (is-separator t ≡ false → e .separator ≡ false → Row e e′) → Inserting ts depth d from n e′ (i + 1)
+  inserting-more n e′ s tokens same row =
       let grown : take (i + 1) (map insert-kind ts) ≡ take i (map insert-kind ts) ++ insert-kind t ∷ [] = take-more (map insert-kind ts) i 0 long ∙ ap (λ k. take i (map insert-kind ts) ++ k ∷ []) kind-at in
       record {
         steps = after-more (map insert-kind ts) i from m n long (so .steps) (subst (λ k. Alike n (taken k m)) (sym kind-at) (step-takes (insert-kind t) depth m n s));
@@ -100,6 +109,10 @@ module _ (ts : List Insert) (depth : ℕ) (d : Draft) (from m : Meaning) (e : Dr
         tokens = tokens ∙ ap (λ l. l ++ insert-kind t ∷ []) (so .tokens) ∙ append-assoc (tokens-of d) (take i (map insert-kind ts)) (insert-kind t ∷ []) ∙ ap (λ l. tokens-of d ++ l) (sym grown);
         contexts = (same .0 ∙ so .contexts .0, same .1 ∙ so .contexts .1);
         order = close-next e′ (drop (i + 1) ts) (subst (NextAll e) next-token (so .order) .1);
+        row = λ none plain.
+            let sofar = so .row none plain in
+            let more = row (ap is-separator is ∙ separator-at ts i t h none) (sofar .0) in
+            (more .0, more .1 ∙ sofar .1);
       }
 
 pub inserting-all : (ts : List Insert) (depth : ℕ) (d : Draft) (from m : Meaning) (e : Draft) (i : ℕ) → Inserting ts depth d from m e i → length ts ≤ i → Inserted ts depth d from m (Ok e)
@@ -108,4 +121,4 @@ inserting-all ts depth d from m e i so h =
     let long = length-map ts insert-kind in
     let all : take i ks ≡ ks = take-all i ks (omega arith) in
     drafted (so .goes (Ok (m .left)) (subst (λ w. Goes (from .remainder) depth (take i ks) (m .left) w (Ok (m .left))) (sym (drop-all i ks (omega arith))) done))
-    (subst (λ us. Alike m (after us from)) all (so .steps)) (so .tokens ∙ ap (λ l. tokens-of d ++ l) all) (so .contexts .0) (so .contexts .1)
+    (subst (λ us. Alike m (after us from)) all (so .steps)) (so .tokens ∙ ap (λ l. tokens-of d ++ l) all) (so .contexts .0) (so .contexts .1) (so .row)

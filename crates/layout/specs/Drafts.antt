@@ -1,6 +1,6 @@
 -- What a call would leave, as the code keeps it. Assumes nothing.
 use mathlib.Core.Path.{_≡_}
-use mathlib.Core.Bool.{Bool, true, false}
+use mathlib.Core.Bool.{Bool, true, false, not, _&&_}
 use mathlib.Core.List.{List, [], _∷_, _++_, map}
 use Prim.Native.Nat.{ℕ, zero, suc, _+_, _-_, _<_, _≤_}
 use lib.ListN.{getD, length, replicate}
@@ -56,6 +56,20 @@ if-set false k = []
 abbrev pub tokens-of : Draft → List ℕ
 tokens-of d = if-set (d .brace) 3 ++ (replicate (d .closes) 4 ++ (if-set (d .separator) 5 ++ replicate (d .«closes_after») 4))
 
+-- a draft stays in one row: no separator, and nothing behind it
+abbrev pub Row : Draft → Draft → Type 0
+Row d e = (e .separator ≡ false) × (e .«closes_after» ≡ d .«closes_after»)
+
+abbrev pub is-separator : Insert → Bool
+is-separator Open = false
+is-separator Close = false
+is-separator Separator = true
+
+-- none of some tokens is a separator
+abbrev pub no-separator : List Insert → Bool
+no-separator [] = true
+no-separator (t ∷ ts) = not (is-separator t) && no-separator ts
+
 -- which token a draft can insert behind the others
 abbrev pub Next : Draft → Insert → Type 0
 Next d Open = (d .brace ≡ false) × (d .closes ≡ 0) × (d .separator ≡ false) × (d .«closes_after» ≡ 0)
@@ -80,5 +94,5 @@ pub record Bound (after before : Meaning) : Type 0 where
 -- tokens taken one after another and drafted, or why one is not
 pub data Inserted (ts : List Insert) (depth : ℕ) (d : Draft) (before now : Meaning) : Result Draft Reason → Type 0 where
   drafted : {e : Draft} → Goes (before .remainder) depth [] (before .left) (map insert-kind ts) (Ok (now .left)) → Alike now (after (map insert-kind ts) before)
-      → tokens-of e ≡ tokens-of d ++ map insert-kind ts → e .depth ≡ d .depth → e .opened ≡ d .opened → Inserted ts depth d before now (Ok e)
+      → tokens-of e ≡ tokens-of d ++ map insert-kind ts → e .depth ≡ d .depth → e .opened ≡ d .opened → (no-separator ts ≡ true → d .separator ≡ false → Row d e) → Inserted ts depth d before now (Ok e)
   refused : {why : Reason} → Goes (before .remainder) depth [] (before .left) (map insert-kind ts) (Err why) → Bound now before → Inserted ts depth d before now (Err why)

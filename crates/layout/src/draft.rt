@@ -8,7 +8,7 @@ ghost use Rattle.std.specs.Options.{isSome};
 ghost use Rattle.std.specs.Orderings.{Decides};
 ghost use Rattle.std.specs.declared.option.Option.the-variants.{None as none};
 ghost use Rattle.parser.specs.Meaning.{meaning};
-ghost use Rattle.layout.specs.Drafts.{Inserted, Next, NextAll, Step, contexts-of, reason-of, tokens-of};
+ghost use Rattle.layout.specs.Drafts.{Inserted, Next, NextAll, Row, Step, contexts-of, is-separator, reason-of, tokens-of};
 ghost use Rattle.layout.specs.First.{innermost-of};
 ghost use Rattle.layout.specs.Limits.{Room};
 ghost use Rattle.layout.specs.Rules.{insert-kind, leaves, opening, outer};
@@ -68,6 +68,7 @@ impl Draft {
         ensures depth { λ r. ⌜ r .depth ≤ self .depth ⌝ }
         ensures tokens { λ r. ⌜ tokens-of r ≡ tokens-of self ⌝ }
         ensures opened { λ r. ⌜ isSome (r .opened) ≡ false ⌝ }
+        ensures row { λ r. ⌜ (r .separator ≡ self .separator) × (r .«closes_after» ≡ self .«closes_after») ⌝ }
     {
         if self.opened.is_some() {
             Draft {
@@ -92,6 +93,7 @@ impl Draft {
         ensures depth { λ r. ⌜ r .depth ≤ self .depth ⌝ }
         ensures tokens { λ r. ⌜ tokens-of r ≡ tokens-of self ⌝ }
         ensures opened { λ r. ⌜ (opening rule ≡ false → isSome (r .opened) ≡ true → isSome (self .opened) ≡ true) ⌝ }
+        ensures row { λ r. ⌜ (r .separator ≡ self .separator) × (r .«closes_after» ≡ self .«closes_after») ⌝ }
     {
         match rule {
             Rule::CloseShallower | Rule::CloseOnError | Rule::CloseAtEnd | Rule::CloseTyped =>
@@ -114,6 +116,7 @@ impl Draft {
         requires few { ⌜ length (tokens-of self) < 2 ^ 31 ⌝ }
         ensures tokens { λ r. ⌜ tokens-of r ≡ tokens-of self ++ insert-kind token ∷ [] ⌝ }
         ensures contexts { λ r. ⌜ (r .depth ≡ self .depth) × (r .opened ≡ self .opened) ⌝ }
+        ensures row { λ r. ⌜ (is-separator token ≡ false → self .separator ≡ false → Row self r) ⌝ }
     {
         match token {
             Insert::Open => Draft {
@@ -133,6 +136,7 @@ impl Draft {
         requires few { ⌜ length (tokens-of self) < 2 ^ 31 ⌝ }
         ensures tokens { λ r. ⌜ tokens-of r ≡ tokens-of self ++ 4 ∷ [] ⌝ }
         ensures contexts { λ r. ⌜ (r .depth ≡ self .depth) × (r .opened ≡ self .opened) ⌝ }
+        ensures row { λ r. ⌜ (self .separator ≡ false → Row self r) ⌝ }
     {
         if self.separator {
             Draft {

@@ -68,4 +68,4 @@ loop-token-again g c =
     let m = of g (c .loop-token .parser) in
     let n = of g (c .take-token .last .parser) in
     inserting-more ts (c .args .blocks) (c .args .draft) from m (c .loop-token .drafted) (c .loop-token .token-index) (token g at) (c .loop-token .inv) (c .loop-token-test .taken) (token-is g at) n (c .with-drafted .result)
-    (subst (λ k. Step k (c .args .blocks) m n (Ok tt)) (kind-is g at) (c .in-Continue-take-token .ensures tt)) (c .with-drafted .ensures .tokens) (c .with-drafted .ensures .contexts)
+    (subst (λ k. Step k (c .args .blocks) m n (Ok tt)) (kind-is g at) (c .in-Continue-take-token .ensures tt)) (c .with-drafted .ensures .tokens) (c .with-drafted .ensures .contexts) (c .with-drafted .ensures .row)

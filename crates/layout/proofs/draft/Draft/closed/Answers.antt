@@ -11,4 +11,5 @@ returns-else-self-eq0 c =
       depth = omega arith;
       tokens = refl;
       opened = refl;
+      row = (refl, refl);
     }

@@ -2,3 +2,5 @@ pub mod Single
 pub mod Firsts
 pub mod Stacks
 pub mod Inserts
+pub mod Shifts
+pub mod Running

@@ -15,9 +15,15 @@ use Rattle.parser.specs.declared.Refused.{Refused}
 use Rattle.parser.specs.declared.Refused.the-variants.{NotViable as Unviable, ReachSpent as Spent}
 use Rattle.sheet.specs.declared.fault.Reason.{Reason}
 use Rattle.sheet.specs.declared.fault.Reason.the-variants.{TooDeep, NotViable, ReachSpent}
-use Rattle.layout.specs.Limits.{Goes, Room}
+use Rattle.sheet.specs.declared.lexeme.Token.{Token}
+use Rattle.layout.specs.Layout.{kinds}
+use Rattle.layout.specs.Limits.{Goes, Laid, Room, Runs}
+use Rattle.layout.specs.Marks.{inserted, written}
 use Rattle.layout.specs.Rules.{insert-kind}
 use Rattle.layout.specs.declared.draft.Draft.{Draft}
+use Rattle.layout.specs.declared.rule.Coming.{Coming}
+use Rattle.layout.specs.declared.rule.Coming.the-variants.{Lexeme as lexeme, End as ending}
+use Rattle.layout.specs.declared.rule.Mark.{Mark}
 use Rattle.layout.specs.declared.rule.Insert.{Insert}
 use Rattle.layout.specs.declared.rule.Insert.the-variants.{Open, Close, Separator}
 
@@ -96,3 +102,14 @@ pub data Inserted (ts : List Insert) (depth : ℕ) (d : Draft) (before now : Mea
   drafted : {e : Draft} → Goes (before .remainder) depth [] (before .left) (map insert-kind ts) (Ok (now .left)) → Alike now (after (map insert-kind ts) before)
       → tokens-of e ≡ tokens-of d ++ map insert-kind ts → e .depth ≡ d .depth → e .opened ≡ d .opened → (no-separator ts ≡ true → d .separator ≡ false → Row d e) → Inserted ts depth d before now (Ok e)
   refused : {why : Reason} → Goes (before .remainder) depth [] (before .left) (map insert-kind ts) (Err why) → Bound now before → Inserted ts depth d before now (Err why)
+
+-- the tokens of a draft: those that it inserts before what comes, and the lexeme itself
+abbrev pub drafted-tokens : Coming → Draft → List Token
+drafted-tokens (lexeme l) d = map (inserted (lexeme l)) (tokens-of d) ++ written l ∷ []
+drafted-tokens (ending p) d = map (inserted (ending p)) (tokens-of d)
+
+-- the rules over what comes, as the code has them: a draft of what they write and leave, with the parser moved on, or why they stop
+pub data Laying (cs ks : List ℕ) (m : Mark) (c : Coming) (before now : Meaning) : Result Draft Reason → Type 0 where
+  laid : {d : Draft} → (x : Laid) → Runs (before .remainder) [] (before .left) ks m c (Ok x) → x .tokens ≡ drafted-tokens c d → x .contexts ≡ contexts-of cs d → d .depth ≤ length ks
+    → Alike now (after (kinds (x .tokens)) before) → Laying cs ks m c before now (Ok d)
+  stopped : {why : Reason} → Runs (before .remainder) [] (before .left) ks m c (Err why) → Bound now before → Laying cs ks m c before now (Err why)

@@ -1,4 +1,5 @@
 -- What comes next in a sheet, and the mark before it. Assumes nothing.
+use mathlib.Core.Path.{_≡_}
 use mathlib.Core.Bool.{Bool, true, false, cond, _||_}
 use Prim.Native.Nat.{ℕ}
 use lib.Dec.{eqb}
@@ -49,3 +50,14 @@ abbrev pub end-mark : Before → Mark
 end-mark Nothing = Block
 end-mark BlockKeyword = Block
 end-mark Other = None
+
+-- the kind of a lexeme, and no kind at the end
+abbrev pub kind : Coming → ℕ
+kind (lexeme l) = l .kind
+kind (ending p) = 0
+
+-- no block is due before a {
+abbrev pub Fitting : Mark → Coming → Type 0
+Fitting None c = Unit {0}
+Fitting Line c = Unit {0}
+Fitting Block c = kind c ≡ 3 → ⊥

@@ -36,6 +36,22 @@ pub struct Draft {
 }
 
 impl Draft {
+    // Nothing inserted yet, and as many blocks open as the sheet has.
+    pub fn new(depth: usize) -> Draft
+        ensures depth { λ r. ⌜ r .depth ≡ depth ⌝ }
+        ensures opened { λ r. ⌜ r .opened ≡ none ⌝ }
+        ensures row { λ r. ⌜ (r .brace ≡ false) × (r .closes ≡ 0) × (r .separator ≡ false) × (r .«closes_after» ≡ 0) ⌝ }
+    {
+        Draft {
+            depth,
+            opened: None,
+            brace: false,
+            closes: 0,
+            separator: false,
+            closes_after: 0,
+        }
+    }
+
     // The innermost context.
     pub fn innermost(self, contexts: &[u32]) -> Option<u32>
         requires { ⌜ self .depth ≤ length (now contexts) ⌝ }

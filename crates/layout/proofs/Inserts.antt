@@ -33,17 +33,17 @@ closes-few d =
     omega (arith, length-append x (y ++ (z ++ w)), length-append y (z ++ w), length-append z w, length-replicate {A = ℕ} (d .closes) 4, length-replicate {A = ℕ} (d .«closes_after») 4)
 
 -- one token: the steps that are left begin with it
-step-goes : (kind depth : ℕ) (u : List ℕ) (from m n : Meaning) (w : List ℕ) (o : Result ℕ Reason) → Alike m (after u from) → Step kind depth m n (Ok tt)
+pub step-goes : (kind depth : ℕ) (u : List ℕ) (from m n : Meaning) (w : List ℕ) (o : Result ℕ Reason) → Alike m (after u from) → Step kind depth m n (Ok tt)
     → Goes (from .remainder) depth (u ++ kind ∷ []) (n .left) w o → Goes (from .remainder) depth u (m .left) (kind ∷ w) o
 step-goes kind depth u from m n w o so (taken-on room begins some next) rest =
     let left : suc (n .left) ≡ m .left = omega (arith, next .left) in
     subst (λ k. Goes (from .remainder) depth u k (kind ∷ w) o) left (goes room (begins-same kind (so .remainder) begins) rest)
 
-step-takes : (kind depth : ℕ) (m n : Meaning) → Step kind depth m n (Ok tt) → Alike n (taken kind m)
+pub step-takes : (kind depth : ℕ) (m n : Meaning) → Step kind depth m n (Ok tt) → Alike n (taken kind m)
 step-takes kind depth m n (taken-on room begins some next) = next
 
 -- a token that is refused stops them
-step-stops : (kind depth : ℕ) (u : List ℕ) (from m n : Meaning) (w : List ℕ) (why : Reason) → Alike m (after u from) → Step kind depth m n (Err why) → Goes (from .remainder) depth u (m .left) (kind ∷ w) (Err why)
+pub step-stops : (kind depth : ℕ) (u : List ℕ) (from m n : Meaning) (w : List ℕ) (why : Reason) → Alike m (after u from) → Step kind depth m n (Err why) → Goes (from .remainder) depth u (m .left) (kind ∷ w) (Err why)
 step-stops kind depth u from m n w why so (too-deep no-room same) = goes-too-deep no-room
 step-stops kind depth u from m n w why so (not-viable room not same) = goes-not-viable room (λ v. not (begins-same kind (same-sym (so .remainder)) v))
 step-stops kind depth u from m n w why so (reach-spent room begins none same) =
@@ -67,7 +67,7 @@ close-next e [] a = tt
 close-next e (t ∷ ts) a = (subst (Next e) (sym (a .0)) tt, a .1)
 
 -- a refused token leaves the parser
-step-leaves : (kind depth : ℕ) (m n : Meaning) (why : Reason) → Step kind depth m n (Err why) → Alike n m
+pub step-leaves : (kind depth : ℕ) (m n : Meaning) (why : Reason) → Step kind depth m n (Err why) → Alike n m
 step-leaves kind depth m n why (too-deep no-room same) = same
 step-leaves kind depth m n why (not-viable room not same) = same
 step-leaves kind depth m n why (reach-spent room begins none same) = same

@@ -4,3 +4,4 @@ pub mod Stacks
 pub mod Inserts
 pub mod Shifts
 pub mod Running
+pub mod Exits

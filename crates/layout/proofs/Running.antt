@@ -7,14 +7,14 @@ use Prim.Native.Nat.{ℕ, _+_, _-_, _<_, _≤_}
 use native.Mathlib.Omega.{arith}
 use lib.ListN.{length, length-append}
 use Rattle.std.proofs.shelf.Lists.{append-assoc, append-nil, map-append}
-use Rattle.std.proofs.shelf.Tests.{cases-bool, false≢true}
+use Rattle.std.proofs.shelf.Tests.{cases-bool, false≢true, true≢false}
 use Rattle.std.specs.Options.{isSome}
 use Rattle.std.specs.declared.result.Result.{Result}
 use Rattle.std.specs.declared.result.Result.the-variants.{Ok, Err}
 use Rattle.parser.specs.Meaning.{Alike, Meaning}
 use Rattle.parser.specs.Runs.{after}
 use Rattle.parser.specs.Sets.{Lists}
-use Rattle.parser.proofs.Meanings.{alike-trans, mark-trans, same-trans}
+use Rattle.parser.proofs.Meanings.{alike-sym, alike-trans, mark-trans, same-trans}
 use Rattle.parser.proofs.Steps.{after-none}
 use Rattle.sheet.specs.declared.fault.Reason.{Reason}
 use Rattle.sheet.specs.declared.lexeme.Lexeme.{Lexeme}
@@ -85,7 +85,7 @@ goes-or-none End = inr refl
 goes-or-none BlockLeftOpen = inr refl
 
 -- more kinds taken after others
-after-on : (u w : List ℕ) (before now : Meaning) → Alike now (after u before) → Alike (after w now) (after (u ++ w) before)
+pub after-on : (u w : List ℕ) (before now : Meaning) → Alike now (after u before) → Alike (after w now) (after (u ++ w) before)
 after-on u w before now so =
     record {
       language = so .language;
@@ -183,36 +183,40 @@ before-twice a b (Ok x) = ap (λ l. Ok (record { tokens = l; contexts = x .conte
 before-twice a b (Err why) = refl
 
 module _ (cs ks : List ℕ) (m₀ : Mark) (c : Coming) (before : Meaning) where
-  pub record Running (d : Draft) (m : Mark) (now : Meaning) : Type 0 where
+  -- the parser has taken what is drafted, and what the rules still do completes what they do in all
+  pub record Standing (d : Draft) (m : Mark) (now : Meaning) : Type 0 where
     pub steps : Alike now (after (tokens-of d) before)
     pub runs : (o : Result Laid Reason) → Runs (before .remainder) (tokens-of d) (now .left) (contexts-of cs d) m c o → Runs (before .remainder) [] (before .left) ks m₀ c (and-before (map (inserted c) (tokens-of d)) o)
+    pub shallow : d .depth ≤ length ks
+
+  pub record Running (d : Draft) (m : Mark) (now : Meaning) : Type 0 where
+    pub stands : Standing d m now
     pub phase : Phase m d
     pub fitting : Fitting m c
     pub brace : isSome (d .opened) ≡ true → kind c ≡ 3 → ⊥
-    pub shallow : d .depth ≤ length ks
     pub small : length (tokens-of d) + length (contexts-of cs d) + weight m ≤ 67
 
   module _ (d : Draft) (m : Mark) (now : Meaning) (r : Rule) (so : Running d m now) (a : Applies (now .remainder) [] m c (contexts-of cs d) r) where
     -- the rule as it applies after the kinds written
     rule : Applies (before .remainder) (tokens-of d) m c (contexts-of cs d) r
-    rule = applies-at (now .remainder) (before .remainder) (tokens-of d) (so .steps .remainder) a
+    rule = applies-at (now .remainder) (before .remainder) (tokens-of d) (so .stands .steps .remainder) a
 
     parser-on : (next : Meaning) (w : List ℕ) → Alike next (after w now) → Alike next (after (tokens-of d ++ w) before)
-    parser-on next w x = alike-trans next (after w now) (after (tokens-of d ++ w) before) x (after-on (tokens-of d) w before now (so .steps))
+    parser-on next w x = alike-trans next (after w now) (after (tokens-of d ++ w) before) x (after-on (tokens-of d) w before now (so .stands .steps))
 
     bound-on : (next : Meaning) → Bound next now → Bound next before
     bound-on next b =
-        record { language = same-trans (b .language) (so .steps .language); reach = b .reach ∙ so .steps .reach; mark = mark-trans (next .mark) (now .mark) (before .mark) (b .mark) (so .steps .mark) }
+        record { language = same-trans (b .language) (so .stands .steps .language); reach = b .reach ∙ so .stands .steps .reach; mark = mark-trans (next .mark) (now .mark) (before .mark) (b .mark) (so .stands .steps .mark) }
 
     written-on : (w : List ℕ) {o : Result ℕ Reason} → Goes (now .remainder) (length (contexts-of cs d)) [] (now .left) w o → Goes (before .remainder) (length (contexts-of cs d)) (tokens-of d) (now .left) w o
-    written-on w g = goes-at (now .remainder) (before .remainder) (tokens-of d) (so .steps .remainder) (length (contexts-of cs d)) g
+    written-on w g = goes-at (now .remainder) (before .remainder) (tokens-of d) (so .stands .steps .remainder) (length (contexts-of cs d)) g
 
     -- a token of the rule is refused
     pub running-stops : (next : Meaning) (why : Reason) → Inserted (inserting r) (length (contexts-of cs d)) d now next (Err why) → Laying cs ks m₀ c before next (Err why)
     running-stops next why (refused g b) = ⊎-elim on none (goes-or-none r)
       where
         on : (m′ : Mark) × (onward r ≡ at-mark m′) → Laying cs ks m₀ c before next (Err why)
-        on x = stopped (so .runs (Err why) (stops rule (x .1) (written-on _ g))) (bound-on next b)
+        on x = stopped (so .stands .runs (Err why) (stops rule (x .1) (written-on _ g))) (bound-on next b)
 
         none : inserting r ≡ [] → Laying cs ks m₀ c before next (Err why)
         none e = absurd (nothing-stops (subst (λ (l : List Insert). Goes (now .remainder) (length (contexts-of cs d)) [] (now .left) (map insert-kind l) (Err why)) e g))
@@ -228,16 +232,53 @@ module _ (cs ks : List ℕ) (m₀ : Mark) (c : Coming) (before : Meaning) where
         let around : contexts-of cs e ≡ contexts-of cs d = (λ i. with-opened (opened i) (stack cs (depth i))) in
         let left : contexts-of cs f ≡ leaves r (column c) (contexts-of cs d) = contexts ∙ ap (leaves r (column c)) around in
         record {
+          stands = record {
           steps = subst (λ (w : List ℕ). Alike next (after w before)) (sym grown) (parser-on next (inserts r) x);
           runs = λ o run.
               let moved : Runs (before .remainder) (tokens-of d ++ inserts r) (next .left) (leaves r (column c) (contexts-of cs d)) m′ c o =
                   subst (λ (x : List ℕ). Runs (before .remainder) (tokens-of d ++ inserts r) (next .left) x m′ c o) left (subst (λ (w : List ℕ). Runs (before .remainder) w (next .left) (contexts-of cs f) m′ c o) grown run) in
               subst (Runs (before .remainder) [] (before .left) ks m₀ c)
               (before-twice (map (inserted c) (tokens-of d)) (map (inserted c) (inserts r)) o ∙ ap (λ l. and-before l o) (sym (map-append (inserted c) (tokens-of d) (inserts r)) ∙ ap (map (inserted c)) (sym grown)))
-              (so .runs _ (goes-on rule on (written-on (inserts r) g) moved));
+              (so .stands .runs _ (goes-on rule on (written-on (inserts r) g) moved));
+          shallow = omega (arith, depth, so .stands .shallow);
+          };
           phase = subst (λ (x : Mark). Phase x f) at (phase-after d f a (so .phase) (λ n p. let kept-row = row n p in (kept .0 ∙ kept-row .0, kept .1 ∙ kept-row .1)));
           fitting = subst (λ (x : Mark). Fitting x c) at (fitting-after r c);
           brace = λ some. ⊎-elim (opens-at-block a goes (so .fitting)) (λ n. so .brace (ap isSome (sym opened) ∙ brace n some)) (cases-bool (opening r));
-          shallow = omega (arith, depth, so .shallow);
           small = omega (arith, so .small, rule-weight a goes, ap length grown, length-append (tokens-of d) (inserts r), ap length left, ap weight at);
         }
+
+-- a rule that goes on at no mark inserts nothing
+none-inserted : (r : Rule) → at-some (onward r) ≡ false → inserting r ≡ []
+none-inserted Separate e = absurd (true≢false e)
+none-inserted CloseShallower e = absurd (true≢false e)
+none-inserted DropMark e = refl
+none-inserted OpenBlock e = absurd (true≢false e)
+none-inserted EmptyBlock e = absurd (true≢false e)
+none-inserted CloseTyped e = refl
+none-inserted StrayClose e = refl
+none-inserted OpenTyped e = refl
+none-inserted CloseOnError e = absurd (true≢false e)
+none-inserted WriteLexeme e = refl
+none-inserted CloseAtEnd e = absurd (true≢false e)
+none-inserted End e = refl
+none-inserted BlockLeftOpen e = refl
+
+module _ (cs ks : List ℕ) (m₀ : Mark) (c : Coming) (before : Meaning) (d : Draft) (m : Mark) (now : Meaning) (r : Rule) (so : Running cs ks m₀ c before d m now) (a : Applies (now .remainder) [] m c (contexts-of cs d) r) (next : Meaning) (e : Draft) where
+  -- where nothing is inserted, all stands as before
+  pub same-stand : at-some (onward r) ≡ false → Inserted (inserting r) (length (contexts-of cs d)) d now next (Ok e) → Standing cs ks m₀ c before e m next × (length (contexts-of cs e) ≡ length (contexts-of cs d)) × Applies (before .remainder) (tokens-of e) m c (contexts-of cs e) r
+  same-stand none (drafted g x tokens depth opened row) =
+      let empty = ap (map insert-kind) (none-inserted r none) in
+      let same : tokens-of e ≡ tokens-of d = tokens ∙ ap (λ w. tokens-of d ++ w) empty ∙ append-nil (tokens-of d) in
+      let around : contexts-of cs e ≡ contexts-of cs d = (λ i. with-opened (opened i) (stack cs (depth i))) in
+      let kept : Alike next now = alike-trans next (after [] now) now (subst (λ (w : List ℕ). Alike next (after w now)) empty x) (alike-sym now (after [] now) (after-none now)) in
+      (record {
+        steps = subst (λ (w : List ℕ). Alike next (after w before)) (sym same) (alike-trans next now (after (tokens-of d) before) kept (so .stands .steps));
+        runs = λ o run.
+            let moved : Runs (before .remainder) (tokens-of d) (now .left) (contexts-of cs d) m c o =
+                subst (λ (n : ℕ). Runs (before .remainder) (tokens-of d) n (contexts-of cs d) m c o) (kept .left)
+                (subst (λ (l : List ℕ). Runs (before .remainder) (tokens-of d) (next .left) l m c o) around (subst (λ (w : List ℕ). Runs (before .remainder) w (next .left) (contexts-of cs e) m c o) same run)) in
+            subst (λ (w : List ℕ). Runs (before .remainder) [] (before .left) ks m₀ c (and-before (map (inserted c) w) o)) (sym same) (so .stands .runs o moved);
+        shallow = omega (arith, depth, so .stands .shallow);
+      }, ap length around, subst (λ (l : List ℕ). Applies (before .remainder) (tokens-of e) m c l r) (sym around) (subst (λ (w : List ℕ). Applies (before .remainder) w m c (contexts-of cs d) r) (sym same)
+          (applies-at (now .remainder) (before .remainder) (tokens-of d) (so .stands .steps .remainder) a)))

@@ -99,7 +99,7 @@ module _ (ts : List Insert) (depth : ℕ) (d : Draft) (from m : Meaning) (e : Dr
       (record { language = same-trans (left .language) (so .steps .language); reach = left .reach ∙ so .steps .reach; mark = mark-trans (n .mark) (m .mark) (from .mark) (left .mark) (so .steps .mark) })
 
   pub inserting-more : (n : Meaning) (e′ : Draft) → Step (insert-kind t) depth m n (Ok tt) → tokens-of e′ ≡ tokens-of e ++ insert-kind t ∷ [] → (e′ .depth ≡ e .depth) × (e′ .opened ≡ e .opened)
-    → (is-separator t ≡ false → e .separator ≡ false → Row e e′) → Inserting ts depth d from n e′ (i + 1)
+      → (is-separator t ≡ false → e .separator ≡ false → Row e e′) → Inserting ts depth d from n e′ (i + 1)
   inserting-more n e′ s tokens same row =
       let grown : take (i + 1) (map insert-kind ts) ≡ take i (map insert-kind ts) ++ insert-kind t ∷ [] = take-more (map insert-kind ts) i 0 long ∙ ap (λ k. take i (map insert-kind ts) ++ k ∷ []) kind-at in
       record {

@@ -40,7 +40,13 @@ impl Coming {
 
 // The rules over what comes, up to its end or to what stops them. The parser takes the tokens on the way, also where
 // they are stopped later: the caller marks it before.
-pub fn lay<P: Stepping>(parser: &mut P, contexts: &[u32], depth: usize, coming: &Coming, mark: Mark) -> Result<Draft, Reason>
+pub fn lay<P: Stepping>(
+    parser: &mut P,
+    contexts: &[u32],
+    depth: usize,
+    coming: &Coming,
+    mark: Mark,
+) -> Result<Draft, Reason>
     requires within { ⌜ depth ≤ length (now contexts) ⌝ }
     requires shallow { ⌜ depth ≤ 64 ⌝ }
     requires fitting { ⌜ Fitting mark (now coming) ⌝ }

@@ -49,8 +49,8 @@ by-entry a rest t e w high k ends entry r =
     ⊎-elim
     (λ b. entry .only (r .number) (r .production, r .there, r .for-it, inl (b .0, k, b .1)))
     (λ n.
-        ∥∥₁-elim ends (ℕ-set (r .number) e)
-        (λ u. entry .only (r .number) (r .production, r .there, r .for-it, inr (n .0, follows-ends a rest t w high k u (n .1)))))
+    ∥∥₁-elim ends (ℕ-set (r .number) e)
+    (λ u. entry .only (r .number) (r .production, r .there, r .for-it, inr (n .0, follows-ends a rest t w high k u (n .1)))))
     (begin-parts (r .production .right) rest t w (r .so))
 
 replaced : (a : ℕ) (rest : List ℕ) (t : ℕ) (w : List ℕ) → IsNonterminal a → IsKind t → Derives sheet (a ∷ rest) (t ∷ w) → Replaced a rest t w
@@ -67,24 +67,26 @@ entry-zero a rest t high k ends entry w d =
 
 -- the entry's production may stand for the nonterminal
 pub entry-expands : (a : ℕ) (rest : List ℕ) (t e : ℕ) → IsNonterminal a → IsKind t → Ends (a ∷ rest) → Entry a t e → (e ≡ 0 → ⊥) → SameFor t (a ∷ rest) (nth sheet e .right ++ rest)
-entry-expands a rest t e high k ends entry some w =
-    ( λ d.
-          let r = replaced a rest t w high k d in
-          let same : nth sheet e ≡ r .production = ap (nth sheet) (sym (by-entry a rest t e w high k ends entry r)) ∙ numbered-nth (r .there) in
-          subst (λ p. Derives sheet (p .right ++ rest) (t ∷ w)) (sym same) (r .so),
-      λ d.
-          let q = entry .is some in
-          let same : nth sheet e ≡ q .0 = numbered-nth (q .1) in
-          subst (λ s. Derives sheet (s ∷ rest) (t ∷ w)) (q .2) (replace (q .1) (subst (λ p. Derives sheet (p .right ++ rest) (t ∷ w)) same d)) )
+entry-expands a rest t e high k ends entry some w = (
+  λ d.
+      let r = replaced a rest t w high k d in
+      let same : nth sheet e ≡ r .production = ap (nth sheet) (sym (by-entry a rest t e w high k ends entry r)) ∙ numbered-nth (r .there) in
+      subst (λ p. Derives sheet (p .right ++ rest) (t ∷ w)) (sym same) (r .so),
+  λ d.
+      let q = entry .is some in
+      let same : nth sheet e ≡ q .0 = numbered-nth (q .1) in
+      subst (λ s. Derives sheet (s ∷ rest) (t ∷ w)) (q .2) (replace (q .1) (subst (λ p. Derives sheet (p .right ++ rest) (t ∷ w)) same d)),
+)
 
 pub ends-expand : (a : ℕ) (rest : List ℕ) (t e : ℕ) → Entry a t e → (e ≡ 0 → ⊥) → Ends (a ∷ rest) → Ends (nth sheet e .right ++ rest)
 ends-expand a rest t e entry some ends =
     let q = entry .is some in
     let same : nth sheet e ≡ q .0 = numbered-nth (q .1) in
-    ∥∥₁-map ends (λ u.
-      ( u .0,
-        subst (λ p. Derives sheet (start ∷ []) (u .0 ++ (p .right ++ rest))) (sym same)
-        (derives-trans (subst (λ s. Derives sheet (start ∷ []) (u .0 ++ s ∷ rest)) (sym (q .2)) (u .1)) (derives-within (u .0) rest (q .1))) ))
+    ∥∥₁-map ends (λ u. (
+      u .0,
+      subst (λ p. Derives sheet (start ∷ []) (u .0 ++ (p .right ++ rest))) (sym same)
+          (derives-trans (subst (λ s. Derives sheet (start ∷ []) (u .0 ++ s ∷ rest)) (sym (q .2)) (u .1)) (derives-within (u .0) rest (q .1))),
+    ))
 
 pub ends-pop : (s : ℕ) (rest : List ℕ) → Ends (s ∷ rest) → Ends rest
 ends-pop s rest ends =

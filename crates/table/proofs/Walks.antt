@@ -28,7 +28,7 @@ unfolding spread
 walk-begins kind places top ahead below none at within ends =
     subst (λ x. Walking kind places top x below) (sym none)
     (subst (λ b. Walking kind places top [] b) (sym at)
-      (record { same = λ w. (λ d. d, λ d. d); ends = ends; narrow = omega arith; inside = within; deeper = inr (refl, refl) }))
+    (record { same = λ w. (λ d. d, λ d. d); ends = ends; narrow = omega arith; inside = within; deeper = inr (refl, refl) }))
 
 module _ (kind : ℕ) (places : List ℕ) (top : ℕ) (ahead : List ℕ) (below s : ℕ) (after : List ℕ) (below′ : ℕ) (w : Walking kind places top ahead below) (f : Further places ahead below s after below′) where
   -- the symbols from the one that was passed

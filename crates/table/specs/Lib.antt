@@ -1,3 +1,4 @@
 pub mod Entry
 pub mod Stack
 pub mod Walk
+pub mod Level

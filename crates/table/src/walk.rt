@@ -8,7 +8,6 @@ ghost use Rattle.std.specs.Options.{Cases as BySome};
 ghost use Rattle.grammar.specs.Grammar.{IsKind};
 ghost use Rattle.table.specs.Stack.{Ends, Never};
 ghost use Rattle.table.specs.Walk.{Further, Met};
-
 use crate::entries::entry;
 use grammar::right_side;
 
@@ -57,6 +56,20 @@ impl Walk {
         }
     }
 
+    // The symbols ahead.
+    pub fn ahead(&self) -> &[u8]
+        ensures { λ r. ⌜ now r ≡ rest (now (self .entry) .first) (now (self .entry) .ahead) ⌝ }
+    {
+        &self.ahead[self.first..]
+    }
+
+    // Where what is left of the stack begins.
+    pub fn below(&self) -> usize
+        ensures { λ r. ⌜ r ≡ now (self .entry) .below ⌝ }
+    {
+        self.below
+    }
+
     // The next symbol, which is passed.
     fn next(&mut self, places: &[u8]) -> Option<u8>
         ensures { λ r. ⌜ BySome r (rest (now (self .entry) .first) (now (self .entry) .ahead) ++ rest (now (self .entry) .below) (now (places .entry)) ≡ []) (λ s. Further (now (places .entry)) (rest (now (self .entry) .first) (now (self .entry) .ahead)) (now (self .entry) .below) s (rest (now (self .exit) .first) (now (self .exit) .ahead)) (now (self .exit) .below)) ⌝ }
@@ -96,7 +109,11 @@ pub fn meet(places: &[u8], top: usize, kind: u32) -> Option<Walk>
     let mut walk = Walk::new(top);
     while let Some(symbol) = walk.next(places) {
         if symbol < NONTERMINAL {
-            return if u32::from(symbol) == kind { Some(walk) } else { None };
+            return if u32::from(symbol) == kind {
+                Some(walk)
+            } else {
+                None
+            };
         }
         let production = entry(symbol, kind);
         if production == 0 {

@@ -12,8 +12,9 @@ loop-left-holds c =
 
 pub loop-left-again : need.loop-left-again
 loop-left-again c =
-    let inv = c .loop-left .inv in
-    ( omega arith,
+    let inv = c .loop-left .inv in (
+      omega arith,
       omega arith,
       length-set _ _ _ ∙ inv .2,
-      lay-more (c .loop-left .places) (c .args .symbols .now) (drop (c .args .top) (c .args .places .now)) (c .loop-left .at) (c .loop-left .left) (omega arith) (inv .0) (omega arith) (omega arith) (inv .3) )
+      lay-more (c .loop-left .places) (c .args .symbols .now) (drop (c .args .top) (c .args .places .now)) (c .loop-left .at) (c .loop-left .left) (omega arith) (inv .0) (omega arith) (omega arith) (inv .3),
+    )

@@ -25,3 +25,8 @@ markOf false stack left = absent
 abbrev pub means : List ℕ → ℕ → Mark → Meaning
 means stack left mark =
     record { language = languageOf sheet; reach = tableReach; remainder = remains stack; left = left; mark = mark }
+
+-- a new parser: the sheet grammar's language may follow, the whole reach is left, and there is no mark
+abbrev pub fresh : Meaning
+fresh =
+    record { language = languageOf sheet; reach = tableReach; remainder = languageOf sheet; left = tableReach; mark = absent }

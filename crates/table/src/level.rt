@@ -24,6 +24,7 @@ const REACH: u16 = 1024;
 const START: u8 = 16;
 
 // The stack is the places from `top` on, the top first. Each token left has three free places before it.
+#[derive(Drop)]
 pub struct Level {
     places: [u8; DEPTH],
     top: usize,

@@ -9,3 +9,7 @@ pub use entries::entry;
 pub use table_parser::TableParser;
 pub use table_parser::TableProbing;
 pub use table_parser::TableStepping;
+pub use table_parser::is_sentence;
+
+#[cfg(test)]
+mod tests;

@@ -1,17 +1,18 @@
 // The table parser: what it holds now, what a mark holds, and the two interfaces.
-ghost use mathlib.Core.Path.{_≡_};
-ghost use mathlib.Core.List.{[]};
-ghost use lib.ListN.{drop as rest};
+ghost use Prim.Native.Nat.{_≤_};
+ghost use lib.ListN.{length, drop as rest};
 ghost use Rattle.std.specs.Orderings.{Decides};
 ghost use Rattle.grammar.specs.Grammar.{languageOf};
 ghost use Rattle.grammar.specs.Sheet.{sheet};
-ghost use Rattle.parser.specs.Meaning.{Alike, absent, started};
-ghost use Rattle.table.specs.Level.{remains, tableReach, markOf, means};
+ghost use Rattle.parser.specs.Meaning.{Alike};
+ghost use Rattle.table.specs.Level.{remains, tableReach, markOf, means, fresh};
 use crate::level::Level;
 use parser::Probing;
 use parser::Refused;
 use parser::Stepping;
+use parser::accepts;
 
+#[derive(Drop)]
 pub struct TableParser {
     present: Level,
     held: Level,
@@ -21,7 +22,7 @@ pub struct TableParser {
 impl TableParser {
     // A parser as a start leaves it: of the sheet grammar's language, with the whole reach and no mark.
     pub fn new() -> TableParser
-        ensures { λ r. ⌜ Alike (means (rest (r .present .top) (r .present .places)) (r .present .left) (markOf (r .marked) (rest (r .held .top) (r .held .places)) (r .held .left))) (started (means [] 0 absent)) ⌝ }
+        ensures { λ r. ⌜ Alike (means (rest (r .present .top) (r .present .places)) (r .present .left) (markOf (r .marked) (rest (r .held .top) (r .held .places)) (r .held .left))) fresh ⌝ }
     {
         TableParser {
             present: Level::new(),
@@ -76,4 +77,12 @@ pub impl Stepping for TableParser as TableStepping {
     fn keep(&mut self) {
         self.marked = false;
     }
+}
+
+// Whether the kinds are a sentence of the sheet grammar, of at most 1,024 tokens.
+pub fn is_sentence(kinds: &[u32]) -> bool
+    ensures { λ r. ⌜ Decides r (languageOf sheet (now (kinds .entry)) × (length (now (kinds .entry)) ≤ 1024)) ⌝ }
+{
+    let mut parser = TableParser::new();
+    accepts(&mut parser, kinds)
 }

@@ -15,6 +15,7 @@ use Rattle.grammar.specs.Sheet.{sheet}
 use Rattle.grammar.proofs.Tests.{implies, implied, below, at-below, each, at-each, numbered, numbered-positive}
 use Rattle.grammar.proofs.Closed.{vanishes, begins, left-high}
 use Rattle.grammar.proofs.SheetSets.{null, begin, follow, closed, vanishes-exact, begins-exact, follow-test}
+use Rattle.table.specs.Cells.{cells}
 use Rattle.table.specs.Entry.{Predicts, Entry}
 
 -- the test of what it means that a production is for a and t
@@ -25,21 +26,6 @@ fits a t p = eqb (p .left) a && (begins null begin (p .right) t || (vanishes nul
 abbrev right : ℕ → ℕ → ℕ → Bool
 right a t e =
     each (λ n p. implies (fits a t p) (eqb n e)) 0 sheet && implies (not (eqb e 0)) ((leb 1 e && leb e 20) && fits a t (nth sheet e))
-
--- the table, as the test reads it
-abbrev pub cells : List (List ℕ)
-cells =
-    (0 ∷ 0 ∷ 1 ∷ 0 ∷ 0 ∷ 0 ∷ 0 ∷ 0 ∷ 0 ∷ 0 ∷ 0 ∷ 0 ∷ 0 ∷ 0 ∷ 0 ∷ []) ∷
-    (2 ∷ 0 ∷ 0 ∷ 2 ∷ 2 ∷ 0 ∷ 0 ∷ 0 ∷ 0 ∷ 0 ∷ 0 ∷ 0 ∷ 0 ∷ 0 ∷ 0 ∷ []) ∷
-    (0 ∷ 0 ∷ 0 ∷ 4 ∷ 3 ∷ 0 ∷ 0 ∷ 0 ∷ 0 ∷ 0 ∷ 0 ∷ 0 ∷ 0 ∷ 0 ∷ 0 ∷ []) ∷
-    (5 ∷ 0 ∷ 0 ∷ 6 ∷ 6 ∷ 0 ∷ 0 ∷ 0 ∷ 0 ∷ 0 ∷ 0 ∷ 0 ∷ 0 ∷ 0 ∷ 0 ∷ []) ∷
-    (0 ∷ 0 ∷ 0 ∷ 0 ∷ 0 ∷ 0 ∷ 0 ∷ 8 ∷ 0 ∷ 0 ∷ 0 ∷ 0 ∷ 0 ∷ 7 ∷ 0 ∷ []) ∷
-    (0 ∷ 0 ∷ 0 ∷ 10 ∷ 10 ∷ 0 ∷ 0 ∷ 0 ∷ 0 ∷ 0 ∷ 0 ∷ 0 ∷ 9 ∷ 0 ∷ 0 ∷ []) ∷
-    (12 ∷ 12 ∷ 0 ∷ 0 ∷ 0 ∷ 12 ∷ 0 ∷ 0 ∷ 0 ∷ 0 ∷ 11 ∷ 0 ∷ 0 ∷ 0 ∷ 12 ∷ []) ∷
-    (0 ∷ 0 ∷ 0 ∷ 14 ∷ 14 ∷ 0 ∷ 14 ∷ 0 ∷ 14 ∷ 13 ∷ 0 ∷ 0 ∷ 14 ∷ 0 ∷ 0 ∷ []) ∷
-    (15 ∷ 16 ∷ 0 ∷ 0 ∷ 0 ∷ 18 ∷ 0 ∷ 0 ∷ 0 ∷ 0 ∷ 0 ∷ 0 ∷ 0 ∷ 0 ∷ 17 ∷ []) ∷
-    (0 ∷ 0 ∷ 0 ∷ 0 ∷ 0 ∷ 0 ∷ 20 ∷ 0 ∷ 19 ∷ 0 ∷ 0 ∷ 0 ∷ 0 ∷ 0 ∷ 0 ∷ []) ∷
-    []
 
 all-right : below (λ i. below (λ j. right (i + 16) (j + 1) (getD (getD cells i []) j 0)) 15) 10 ≡ true
 unfolding null begin follow

@@ -1,3 +1,4 @@
+pub mod Cells
 pub mod Entry
 pub mod Stack
 pub mod Walk

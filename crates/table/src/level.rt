@@ -35,6 +35,15 @@ pub struct Level {
     ghost ends: { Ends (rest top places) },
 }
 
+// Lays the start symbol alone, and answers where it stands.
+fn lay_start(places: &mut [u8]) -> usize
+    requires { ⌜ length (now places) ≡ 3073 ⌝ }
+    ensures at { λ r. ⌜ r ≡ 3072 ⌝ }
+    ensures stack { λ r. ⌜ rest r (now (places .exit)) ≡ startSymbol ∷ [] ⌝ }
+{
+    lay(places, DEPTH, &[START])
+}
+
 impl Level {
     // The start symbol alone, with the whole reach.
     pub fn new() -> Level
@@ -42,7 +51,7 @@ impl Level {
         ensures left { λ r. ⌜ r .left ≡ 1024 ⌝ }
     {
         let mut places = [0; DEPTH];
-        let top = lay(&mut places, DEPTH, &[START]);
+        let top = lay_start(&mut places);
         Level {
             places,
             top,
@@ -55,7 +64,7 @@ impl Level {
         ensures stack { λ _. ⌜ rest (now (self .exit) .top) (now (self .exit) .places) ≡ startSymbol ∷ [] ⌝ }
         ensures left { λ _. ⌜ now (self .exit) .left ≡ 1024 ⌝ }
     {
-        self.top = lay(&mut self.places, DEPTH, &[START]);
+        self.top = lay_start(&mut self.places);
         self.left = REACH;
     }
 

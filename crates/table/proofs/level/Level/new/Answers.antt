@@ -4,5 +4,5 @@ use Rattle.table.proofs.level.Level.new.Needs as need
 
 pub ghost-result : need.ghost-result
 ghost-result c =
-    let at = c .lay-top .ensures .begins in
-    (c .lay-top .kept .places, (omega arith, (omega arith, (ends-fresh _ (c .lay-top .ensures .laid), tt))))
+    let at = c .lay-start-top .ensures .at in
+    (c .lay-start-top .kept .places, (omega arith, (omega arith, (ends-fresh _ (c .lay-start-top .ensures .stack), tt))))

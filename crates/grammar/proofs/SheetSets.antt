@@ -282,11 +282,11 @@ known-derived (replace {p = p} {x = x} n d) h =
     known-derived d (known-append (p .right) x (known-is (p .right) (at-each (λ n p. known (p .right)) sheet refl n)) (h .2))
 
 -- a list of the grammar's symbols derives some list of kinds
-pub all-productive-derive : (x : List ℕ) → Known x → (w : List ℕ) × Derives sheet x w × Kinds w
-all-productive-derive [] h = ([], done, tt)
-all-productive-derive (s ∷ x) h =
+pub kinds-derived : (x : List ℕ) → Known x → (w : List ℕ) × Derives sheet x w × Kinds w
+kinds-derived [] h = ([], done, tt)
+kinds-derived (s ∷ x) h =
     let one = productive s (h .0) (h .1) in
-    let rest = all-productive-derive x (h .2) in
+    let rest = kinds-derived x (h .2) in
     (one .0 ++ rest .0, derives-append (one .1) (rest .1), kinds-append (one .0) (rest .0) (one .2) (rest .2))
   where
     kinds-append : (u v : List ℕ) → Kinds u → Kinds v → Kinds (u ++ v)

@@ -76,3 +76,7 @@ Runs m (c ∷ cs) (a ∷ answers) = Answers m c a × Runs (next c a m) cs answer
 -- from these two meanings the same calls answer the same, however many they are
 abbrev pub SameForEver : Meaning → Meaning → Type 0
 SameForEver m n = (calls : List Call) (answers others : List Answer) → Runs m calls answers → Runs n calls others → answers ≡ others
+
+-- these calls can be answered alike from the two meanings
+abbrev pub Agree : Meaning → Meaning → List Call → Type 0
+Agree m n calls = (answers : List Answer) × Runs m calls answers × Runs n calls answers

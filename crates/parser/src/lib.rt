@@ -15,7 +15,7 @@ pub use expected::expected_kinds;
 pub use runs::Answer;
 pub use runs::Call;
 pub use runs::accepts;
-pub use runs::alike_for_ever;
+pub use runs::agree;
 pub use runs::perform;
 pub use runs::take_all;
 
@@ -83,3 +83,6 @@ pub trait Stepping: Probing {
     fn keep(&mut self)
         ensures { λ _. ⌜ Alike (meaning language reach (Self·Probing .remainder) left saved (now (self .exit))) (kept (meaning language reach (Self·Probing .remainder) left saved (now (self .entry)))) ⌝ };
 }
+
+#[cfg(test)]
+mod tests;

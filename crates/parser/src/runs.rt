@@ -1,13 +1,14 @@
 // What follows from the promises alone, for every parser: lists of kinds taken in turn, and any run of
 // questions and operations.
 ghost use mathlib.Core.Path.{_≡_};
+ghost use mathlib.Core.Bool.{true};
 ghost use mathlib.Core.Logic.{_⊎_};
 ghost use Prim.Native.Nat.{_≤_, _<_};
 ghost use lib.ListN.{length, getD, take as front};
 ghost use Rattle.std.specs.Orderings.{Decides};
 ghost use Rattle.parser.specs.Sets.{Begins};
 ghost use Rattle.parser.specs.Meaning.{Alike, meaning, started};
-ghost use Rattle.parser.specs.Runs.{after, BeginsWith, WithinReach, Answers, next, SameForEver};
+ghost use Rattle.parser.specs.Runs.{after, BeginsWith, WithinReach, Answers, next, Agree, SameForEver};
 use crate::Refused;
 use crate::RefusedDebug as _;
 use crate::RefusedPartialEq;
@@ -96,10 +97,26 @@ pub fn perform<P: Stepping>(parser: &mut P, call: Call) -> Answer
     }
 }
 
-// Two parsers that are alike now answer the same to the same calls for ever, whatever they are made of.
-pub fn alike_for_ever<P: Stepping, Q: Stepping>(one: &P, other: &Q)
-    ensures { λ _. ⌜ (Alike (meaning (P·Stepping .language) (P·Stepping .reach) (P·Probing .remainder) (P·Stepping .left) (P·Stepping .saved) (now (one .entry))) (meaning (Q·Stepping .language) (Q·Stepping .reach) (Q·Probing .remainder) (Q·Stepping .left) (Q·Stepping .saved) (now (other .entry))) → SameForEver (meaning (P·Stepping .language) (P·Stepping .reach) (P·Probing .remainder) (P·Stepping .left) (P·Stepping .saved) (now (one .entry))) (meaning (Q·Stepping .language) (Q·Stepping .reach) (Q·Probing .remainder) (Q·Stepping .left) (Q·Stepping .saved) (now (other .entry)))) ⌝ }
+// Whether two answers are the same.
+fn same(one: Answer, other: Answer) -> bool
+    ensures { λ r. ⌜ Decides r (one ≡ other) ⌝ }
 {
-    let _ = one;
-    let _ = other;
+    one == other
+}
+
+// Makes the calls on both parsers, and tells whether they answered the same to each. Two that are alike answer the same
+// and stay alike, for ever, whatever they are made of.
+pub fn agree<P: Stepping, Q: Stepping>(one: &mut P, other: &mut Q, calls: &[Call]) -> bool
+    ensures told { λ r. ⌜ Decides r (Agree (meaning (P·Stepping .language) (P·Stepping .reach) (P·Probing .remainder) (P·Stepping .left) (P·Stepping .saved) (now (one .entry))) (meaning (Q·Stepping .language) (Q·Stepping .reach) (Q·Probing .remainder) (Q·Stepping .left) (Q·Stepping .saved) (now (other .entry))) (now (calls .entry))) ⌝ }
+    ensures alike { λ r. ⌜ (Alike (meaning (P·Stepping .language) (P·Stepping .reach) (P·Probing .remainder) (P·Stepping .left) (P·Stepping .saved) (now (one .entry))) (meaning (Q·Stepping .language) (Q·Stepping .reach) (Q·Probing .remainder) (Q·Stepping .left) (Q·Stepping .saved) (now (other .entry))) → (r ≡ true) × Alike (meaning (P·Stepping .language) (P·Stepping .reach) (P·Probing .remainder) (P·Stepping .left) (P·Stepping .saved) (now (one .exit))) (meaning (Q·Stepping .language) (Q·Stepping .reach) (Q·Probing .remainder) (Q·Stepping .left) (Q·Stepping .saved) (now (other .exit)))) ⌝ }
+    ensures for_ever { λ _. ⌜ (Alike (meaning (P·Stepping .language) (P·Stepping .reach) (P·Probing .remainder) (P·Stepping .left) (P·Stepping .saved) (now (one .entry))) (meaning (Q·Stepping .language) (Q·Stepping .reach) (Q·Probing .remainder) (Q·Stepping .left) (Q·Stepping .saved) (now (other .entry))) → SameForEver (meaning (P·Stepping .language) (P·Stepping .reach) (P·Probing .remainder) (P·Stepping .left) (P·Stepping .saved) (now (one .entry))) (meaning (Q·Stepping .language) (Q·Stepping .reach) (Q·Probing .remainder) (Q·Stepping .left) (Q·Stepping .saved) (now (other .entry)))) ⌝ }
+{
+    for call in calls {
+        let first = perform(one, *call);
+        let second = perform(other, *call);
+        if !same(first, second) {
+            return false;
+        }
+    }
+    true
 }

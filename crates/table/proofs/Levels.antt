@@ -16,7 +16,7 @@ use Rattle.std.proofs.shelf.Lists.{drop-all, drop-more, drop-drop, take-rest, t
 use Rattle.grammar.specs.Grammar.{Derives, Kinds, IsKind, start}
 use Rattle.grammar.specs.Sheet.{sheet}
 use Rattle.grammar.proofs.Derivations.{derives-append, null-parts}
-use Rattle.grammar.proofs.SheetSets.{all-productive-derive}
+use Rattle.grammar.proofs.SheetSets.{kinds-derived}
 use Rattle.parser.specs.Sets.{Begins}
 use Rattle.parser.specs.Meaning.{Alike, absent, taken}
 use Rattle.parser.proofs.Meanings.{same-refl}
@@ -45,7 +45,7 @@ ends-fresh y e = ends-same (start ∷ []) y e ends-start
 
 -- a stack that ends a derived list derives some list of kinds
 some-kinds : (x : List ℕ) → Ends x → (w : List ℕ) × Derives sheet x w × Kinds w
-some-kinds x ends = all-productive-derive x (ends-known x ends)
+some-kinds x ends = kinds-derived x (ends-known x ends)
 
 -- a kind that is met is viable
 pub met-viable : (kind : ℕ) (places : List ℕ) (top : ℕ) (ahead : List ℕ) (below : ℕ) → Met kind places top ahead below → Begins (remains (drop top places)) kind

@@ -69,19 +69,19 @@ pub trait Stepping: Probing {
     law reach_small: { (s : Self) → reach s ≤ 65535 };
 
     fn start(&mut self)
-        ensures { λ _. ⌜ Alike (meaning language reach (Self·Probing .remainder) left saved (now (self .exit))) (started (meaning language reach (Self·Probing .remainder) left saved (now (self .entry)))) ⌝ };
+        ensures { λ _. ⌜ Alike (meaning language reach remainder left saved (now (self .exit))) (started (meaning language reach remainder left saved (now (self .entry)))) ⌝ };
 
     fn take(&mut self, kind: u32) -> Result<(), Refused>
-        ensures { λ r. ⌜ Takes kind (meaning language reach (Self·Probing .remainder) left saved (now (self .entry))) r (meaning language reach (Self·Probing .remainder) left saved (now (self .exit))) ⌝ };
+        ensures { λ r. ⌜ Takes kind (meaning language reach remainder left saved (now (self .entry))) r (meaning language reach remainder left saved (now (self .exit))) ⌝ };
 
     fn mark(&mut self)
-        ensures { λ _. ⌜ Alike (meaning language reach (Self·Probing .remainder) left saved (now (self .exit))) (marked (meaning language reach (Self·Probing .remainder) left saved (now (self .entry)))) ⌝ };
+        ensures { λ _. ⌜ Alike (meaning language reach remainder left saved (now (self .exit))) (marked (meaning language reach remainder left saved (now (self .entry)))) ⌝ };
 
     fn back(&mut self)
-        ensures { λ _. ⌜ Alike (meaning language reach (Self·Probing .remainder) left saved (now (self .exit))) (restored (meaning language reach (Self·Probing .remainder) left saved (now (self .entry)))) ⌝ };
+        ensures { λ _. ⌜ Alike (meaning language reach remainder left saved (now (self .exit))) (restored (meaning language reach remainder left saved (now (self .entry)))) ⌝ };
 
     fn keep(&mut self)
-        ensures { λ _. ⌜ Alike (meaning language reach (Self·Probing .remainder) left saved (now (self .exit))) (kept (meaning language reach (Self·Probing .remainder) left saved (now (self .entry)))) ⌝ };
+        ensures { λ _. ⌜ Alike (meaning language reach remainder left saved (now (self .exit))) (kept (meaning language reach remainder left saved (now (self .entry)))) ⌝ };
 }
 
 #[cfg(test)]

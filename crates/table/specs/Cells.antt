@@ -2,7 +2,9 @@
 -- contract of the function that reads it says what each entry is.
 -- Assumes nothing.
 use mathlib.Core.List.{List, [], _∷_}
-use Prim.Native.Nat.{ℕ}
+use mathlib.Core.Bool.{cond}
+use Prim.Native.Nat.{ℕ, _+_}
+use lib.Dec.{eqb}
 
 -- the entries, row by row
 abbrev pub cells : List (List ℕ)
@@ -18,3 +20,13 @@ cells =
     (15 ∷ 16 ∷ 0 ∷ 0 ∷ 0 ∷ 18 ∷ 0 ∷ 0 ∷ 0 ∷ 0 ∷ 0 ∷ 0 ∷ 0 ∷ 0 ∷ 17 ∷ []) ∷
     (0 ∷ 0 ∷ 0 ∷ 0 ∷ 0 ∷ 0 ∷ 20 ∷ 0 ∷ 19 ∷ 0 ∷ 0 ∷ 0 ∷ 0 ∷ 0 ∷ 0 ∷ []) ∷
     []
+
+-- how many numbers of a row are not 0
+abbrev pub filledRow : List ℕ → ℕ
+filledRow [] = 0
+filledRow (e ∷ row) = cond (eqb e 0) 0 1 + filledRow row
+
+-- how many entries are not 0
+abbrev pub filled : List (List ℕ) → ℕ
+filled [] = 0
+filled (row ∷ rows) = filledRow row + filled rows

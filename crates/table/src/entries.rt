@@ -3,7 +3,7 @@ ghost use mathlib.Core.Path.{_≡_};
 ghost use mathlib.Core.List.{[]};
 ghost use Prim.Native.Nat.{_<_};
 ghost use lib.ListN.{getD};
-ghost use Rattle.table.specs.Cells.{cells};
+ghost use Rattle.table.specs.Cells.{cells, filled};
 ghost use Rattle.table.specs.Entry.{Entry};
 
 const TABLE: [[u8; 15]; 10] = [
@@ -39,4 +39,11 @@ pub fn entry(symbol: u8, kind: u32) -> u8
         return 0;
     }
     cell(symbol as usize - 16, kind as usize - 1)
+}
+
+// How many entries are not 0.
+pub fn entries_filled() -> u8
+    ensures { λ r. ⌜ r ≡ filled cells ⌝ }
+{
+    31
 }

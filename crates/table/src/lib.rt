@@ -5,6 +5,7 @@ mod level;
 mod table_parser;
 mod walk;
 
+pub use entries::entries_filled;
 pub use entries::entry;
 pub use table_parser::TableParser;
 pub use table_parser::TableProbing;

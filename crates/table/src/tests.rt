@@ -113,7 +113,7 @@ fn reach() -> Result<(), Fail> {
 
 #[test]
 fn filled() -> Result<(), Fail> {
-    let mut count = 0u32;
+    let mut count = 0u8;
     for symbol in 0..40u8 {
         for kind in 0..40u32 {
             if entry(symbol, kind) != 0 {
@@ -121,5 +121,5 @@ fn filled() -> Result<(), Fail> {
             }
         }
     }
-    check_eq(count, 31)
+    check_eq(count, entries_filled())
 }

@@ -1,17 +1,16 @@
 -- The sheet grammar's sets are exact: every member has a script that shows it, and the sets are closed, so that there
 -- are no other members.
 -- Assumes nothing.
-use mathlib.Core.Path.{_≡_, refl, sym, ap, subst, _∙_}
-use mathlib.Core.Bool.{Bool, true, false, _&&_, _||_}
+use mathlib.Core.Path.{_≡_, refl, sym, subst}
+use mathlib.Core.Bool.{Bool, true, false, _&&_}
 use mathlib.Core.Logic.{⊎-elim}
 use mathlib.Core.List.{List, [], _∷_, _++_}
-use Prim.Native.Nat.{ℕ, _-_, _<_, _≤_}
+use Prim.Native.Nat.{ℕ, _-_, _≤_}
 use native.Mathlib.Omega.{arith}
-use lib.Dec.{eqb, leb, ltb}
-use lib.ListN.{getD}
+use lib.Dec.{eqb, leb}
 use borrow.Author.Tests.{eqb-true, leb-true, le-leb, both-ways}
 use Rattle.std.specs.Orderings.{Decides}
-use Rattle.std.proofs.shelf.Tests.{and-parts, or-cases, cases-lt, cases-order}
+use Rattle.std.proofs.shelf.Tests.{and-parts, or-cases, cases-lt}
 use Rattle.grammar.specs.Grammar.{Derives, done, keep, replace, IsKind, IsNonterminal, Kinds, start, Nullable, CanBegin, CanFollow, among}
 use Rattle.grammar.specs.Sheet.{sheet}
 use Rattle.grammar.specs.Sets.{nullables, beginnerRows, followerRows, beginners, followers}

@@ -1,16 +1,13 @@
 -- Alike meanings answer alike, and stay alike.
 -- Assumes nothing.
 use mathlib.Core.Path.{_≡_, refl, sym, ap, subst, _∙_}
-use mathlib.Core.Bool.{Bool, true, false}
 use mathlib.Core.List.{List, [], _∷_}
 use Prim.Native.Nat.{ℕ, _<_}
 use native.Mathlib.Omega.{arith}
-use Rattle.std.specs.Orderings.{Decides}
 use Rattle.std.proofs.shelf.Ways.{same-from-decides, decides-like}
 use Rattle.parser.specs.Sets.{Begins}
 use Rattle.parser.specs.Meaning.{Meaning, Alike}
 use Rattle.parser.specs.Runs.{Says, TakeSays, Answers, takenIf, next, Runs, Agree}
-use Rattle.parser.specs.declared.Refused.{Refused}
 use Rattle.parser.specs.declared.Refused.the-variants.{NotViable, ReachSpent}
 use Rattle.parser.specs.declared.runs.Call.{Call}
 use Rattle.parser.specs.declared.runs.Call.the-variants.{Viable, Complete, Start, Take, Mark, Back, Keep}
@@ -52,7 +49,7 @@ module _ (m n : Meaning) (alike : Alike m n) where
   take-one kind (Denied ReachSpent) (Denied ReachSpent) h k = refl
 
   -- the same call has one answer
-  answer-one : (c : Call) (a b : Answer) → Answers m c a → Answers n c b → a ≡ b
+  pub answer-one : (c : Call) (a b : Answer) → Answers m c a → Answers n c b → a ≡ b
   answer-one (Viable kind) a b h k = says-one a b _ _ (there kind) (here kind) h k
   answer-one Complete a b h k = says-one a b _ _ (alike .remainder [] .0) (alike .remainder [] .1) h k
   answer-one Start a b h k = h ∙ sym k
@@ -68,7 +65,7 @@ module _ (m n : Meaning) (alike : Alike m n) where
   take-moves kind (Denied ReachSpent) h = (there kind (h .0), sym (alike .left) ∙ h .1)
 
   -- and the same answers fit
-  answer-moves : (c : Call) (a : Answer) → Answers m c a → Answers n c a
+  pub answer-moves : (c : Call) (a : Answer) → Answers m c a → Answers n c a
   answer-moves (Viable kind) a h = says-moves a _ _ (there kind) (here kind) h
   answer-moves Complete a h = says-moves a _ _ (alike .remainder [] .0) (alike .remainder [] .1) h
   answer-moves Start a h = h
@@ -82,7 +79,7 @@ module _ (m n : Meaning) (alike : Alike m n) where
   taken-alike kind Done = alike-taken kind m n alike
   taken-alike kind (Denied why) = alike
 
-  next-alike : (c : Call) (a : Answer) → Alike (next c a m) (next c a n)
+  pub next-alike : (c : Call) (a : Answer) → Alike (next c a m) (next c a n)
   next-alike (Viable kind) a = alike
   next-alike Complete a = alike
   next-alike Start a = alike-started m n alike
@@ -104,7 +101,7 @@ for-ever (c ∷ calls) m n alike (a ∷ answers) (b ∷ others) h k =
     λ i. e i ∷ es i
 
 -- a run from a meaning is one from any alike
-runs-move : (calls : List Call) (m n : Meaning) → Alike m n → (answers : List Answer) → Runs m calls answers → Runs n calls answers
+pub runs-move : (calls : List Call) (m n : Meaning) → Alike m n → (answers : List Answer) → Runs m calls answers → Runs n calls answers
 runs-move [] m n alike [] h = h
 runs-move [] m n alike (a ∷ answers) h = h
 runs-move (c ∷ calls) m n alike [] h = h

@@ -1,7 +1,7 @@
 -- To be alike is an equivalence, and each operation keeps it.
 -- Assumes nothing.
-use mathlib.Core.Path.{_≡_, refl, sym, ap, _∙_}
-use mathlib.Core.List.{List, _∷_}
+use mathlib.Core.Path.{refl, sym, ap, _∙_}
+use mathlib.Core.List.{_∷_}
 use Prim.Native.Nat.{ℕ, _-_}
 use Rattle.parser.specs.Sets.{Lists, Begins, Same}
 use Rattle.parser.specs.Meaning.{Mark, absent, holds, Meaning, SameMark, Alike, started, taken, marked, kept, restored, back}

@@ -6,11 +6,11 @@ use mathlib.Core.Logic.{_⊎_, inl, inr}
 use mathlib.Core.List.{List, [], _∷_, _++_, append-assoc, append-nil}
 use Prim.Native.Nat.{ℕ, _+_, _-_, _<_, _≤_}
 use native.Mathlib.Omega.{arith}
-use lib.ListN.{length, getD, take, drop, length-append, take-append-drop}
+use lib.ListN.{length, getD, take, drop, take-append-drop}
 use Rattle.std.proofs.shelf.Lists.{take-more, take-all, drop-more, length-push, length-take-le}
 use Rattle.std.proofs.shelf.Ways.{decides-like}
 use Rattle.std.specs.Orderings.{Decides}
-use Rattle.parser.specs.Sets.{Lists, Begins, Same}
+use Rattle.parser.specs.Sets.{Begins}
 use Rattle.std.specs.declared.result.Result.the-variants.{Err}
 use Rattle.parser.specs.Meaning.{Meaning, Alike, Takes, started, taken}
 use Rattle.parser.specs.declared.Refused.{Refused}

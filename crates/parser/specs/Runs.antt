@@ -6,8 +6,7 @@ use Prim.Native.Nat.{ℕ, _-_, _<_, _≤_}
 use lib.ListN.{length}
 use Rattle.std.specs.Orderings.{Decides}
 use Rattle.parser.specs.Sets.{Lists, Begins}
-use Rattle.parser.specs.Meaning.{Meaning, Alike, started, taken, marked, kept, back}
-use Rattle.parser.specs.declared.Refused.{Refused}
+use Rattle.parser.specs.Meaning.{Meaning, started, taken, marked, kept, back}
 use Rattle.parser.specs.declared.Refused.the-variants.{NotViable, ReachSpent}
 use Rattle.parser.specs.declared.runs.Call.{Call}
 use Rattle.parser.specs.declared.runs.Call.the-variants.{Viable, Complete, Start, Take, Mark, Back, Keep}

@@ -1,17 +1,10 @@
 -- A stack laid anew, and what is viable at it.
 -- Assumes nothing.
 use mathlib.Core.Path.{_≡_, refl, sym, ap, subst, _∙_}
-use mathlib.Core.Bool.{Bool, true, false}
-use mathlib.Core.Logic.{_⊎_, inl, inr, ⊎-elim}
 use mathlib.Core.List.{List, [], _∷_, _++_, append-nil}
-use Prim.Native.Nat.{ℕ, _+_, _-_, _*_, _<_, _≤_}
+use Prim.Native.Nat.{ℕ, _+_, _-_, _<_, _≤_}
 use native.Mathlib.Omega.{arith}
 use lib.ListN.{length, getD, take, drop}
-use borrow.Author.Tests.{both-ways}
-use Rattle.std.specs.Options.{Cases, isSome}
-use Rattle.std.specs.Orderings.{Decides}
-use Rattle.std.specs.declared.option.Option.{Option}
-use Rattle.std.specs.declared.option.Option.the-variants.{Some, None}
 use Rattle.std.proofs.shelf.Lists.{drop-all, drop-more, drop-drop, take-rest, take-append-drop, length-take, length-drop}
 use Rattle.grammar.specs.Grammar.{Derives, Kinds, IsKind, start}
 use Rattle.grammar.specs.Sheet.{sheet}

@@ -1,18 +1,18 @@
 -- The table's rule, proved at all of its entries by one test that antt computes, and carried to each entry.
 -- Assumes nothing.
-use mathlib.Core.Path.{_≡_, refl, sym, ap, subst, _∙_}
-use mathlib.Core.Bool.{Bool, true, false, _&&_, _||_, not}
+use mathlib.Core.Path.{_≡_, refl, subst}
+use mathlib.Core.Bool.{Bool, true, _&&_, _||_, not}
 use mathlib.Core.Logic.{_⊎_, inl, inr, ⊎-elim}
-use mathlib.Core.List.{List, [], _∷_}
-use Prim.Native.Nat.{ℕ, _+_, _-_, _<_, _≤_}
+use mathlib.Core.List.{[]}
+use Prim.Native.Nat.{ℕ, _+_, _-_, _≤_}
 use native.Mathlib.Omega.{arith}
 use lib.Dec.{eqb, leb}
 use lib.ListN.{getD}
-use borrow.Author.Tests.{eqb-true, eq-eqb, ne-eqb, leb-true, both-ways}
+use borrow.Author.Tests.{eqb-true, eq-eqb, ne-eqb, leb-true}
 use Rattle.std.proofs.shelf.Tests.{and-parts, and-from, or-cases, or-left, or-right, not-from-false}
-use Rattle.grammar.specs.Grammar.{Production, Numbered, nth, IsKind, Nullable, CanBegin, CanFollow}
+use Rattle.grammar.specs.Grammar.{Production, nth, IsKind, Nullable, CanBegin, CanFollow}
 use Rattle.grammar.specs.Sheet.{sheet}
-use Rattle.grammar.proofs.Tests.{implies, implied, below, at-below, each, at-each, numbered, numbered-positive}
+use Rattle.grammar.proofs.Tests.{implies, implied, below, at-below, each, at-each, numbered}
 use Rattle.grammar.proofs.Closed.{vanishes, begins, left-high}
 use Rattle.grammar.proofs.SheetSets.{null, begin, follow, closed, vanishes-exact, begins-exact, follow-test}
 use Rattle.table.specs.Cells.{cells}

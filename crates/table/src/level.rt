@@ -25,7 +25,7 @@ const START: u8 = 16;
 
 // The stack is the places from `top` on, the top first. Each token left has three free places before it.
 #[derive(Drop)]
-pub struct Level {
+pub(crate) struct Level {
     places: [u8; DEPTH],
     top: usize,
     left: u16,
@@ -46,7 +46,7 @@ fn lay_start(places: &mut [u8]) -> usize
 
 impl Level {
     // The start symbol alone, with the whole reach.
-    pub fn new() -> Level
+    pub(crate) fn new() -> Level
         ensures stack { λ r. ⌜ rest (r .top) (r .places) ≡ startSymbol ∷ [] ⌝ }
         ensures left { λ r. ⌜ r .left ≡ 1024 ⌝ }
     {
@@ -60,7 +60,7 @@ impl Level {
     }
 
     // Back to the start symbol alone, with the whole reach.
-    pub fn reset(&mut self)
+    pub(crate) fn reset(&mut self)
         ensures stack { λ _. ⌜ rest (now (self .exit) .top) (now (self .exit) .places) ≡ startSymbol ∷ [] ⌝ }
         ensures left { λ _. ⌜ now (self .exit) .left ≡ 1024 ⌝ }
     {
@@ -69,7 +69,7 @@ impl Level {
     }
 
     // The same stack and number left as the other has. Only the used places are copied.
-    pub fn copy(&mut self, other: &Level)
+    pub(crate) fn copy(&mut self, other: &Level)
         ensures stack { λ _. ⌜ rest (now (self .exit) .top) (now (self .exit) .places) ≡ rest (now (other .entry) .top) (now (other .entry) .places) ⌝ }
         ensures left { λ _. ⌜ now (self .exit) .left ≡ now (other .entry) .left ⌝ }
     {
@@ -78,7 +78,7 @@ impl Level {
     }
 
     // Whether some list that the stack derives begins with this kind.
-    pub fn viable(&self, kind: u32) -> bool
+    pub(crate) fn viable(&self, kind: u32) -> bool
         ensures { λ r. ⌜ Decides r (Begins (remains (rest (now (self .entry) .top) (now (self .entry) .places))) kind) ⌝ }
     {
         match meet(&self.places, self.top, kind) {
@@ -88,7 +88,7 @@ impl Level {
     }
 
     // Whether the stack derives the empty list.
-    pub fn complete(&self) -> bool
+    pub(crate) fn complete(&self) -> bool
         ensures { λ r. ⌜ Decides r (remains (rest (now (self .entry) .top) (now (self .entry) .places)) []) ⌝ }
     {
         let mut at = DEPTH;
@@ -102,7 +102,7 @@ impl Level {
     }
 
     // Takes the kind, where it is viable and some are left.
-    pub fn take(&mut self, kind: u32) -> Result<(), Refused>
+    pub(crate) fn take(&mut self, kind: u32) -> Result<(), Refused>
         ensures { λ r. ⌜ Takes kind (means (rest (now (self .entry) .top) (now (self .entry) .places)) (now (self .entry) .left) absent) r (means (rest (now (self .exit) .top) (now (self .exit) .places)) (now (self .exit) .left) absent) ⌝ }
     {
         match meet(&self.places, self.top, kind) {

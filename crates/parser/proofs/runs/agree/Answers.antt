@@ -1,14 +1,13 @@
-use mathlib.Core.Path.{_≡_, refl, sym, ap, subst, _∙_}
+use mathlib.Core.Path.{_≡_, refl, sym, subst}
 use mathlib.Core.Bool.{false}
-use mathlib.Core.List.{List, [], _∷_}
+use mathlib.Core.List.{[]}
 use Prim.Native.Nat.{_+_}
 use native.Mathlib.Omega.{arith}
-use lib.ListN.{length, getD, drop}
+use lib.ListN.{getD, drop}
 use borrow.Author.Tests.{both-ways}
 use Rattle.std.proofs.shelf.Lists.{drop-more, drop-all}
 use Rattle.parser.specs.Meaning.{Meaning, Alike, meaning}
 use Rattle.parser.specs.Runs.{Agree, Answers, next}
-use Rattle.parser.specs.declared.runs.Call.{Call}
 use Rattle.parser.specs.declared.runs.Call.the-variants.{Viable}
 use Rattle.parser.proofs.ForEver.{for-ever, agree-back, agree-on, stay-alike, not-agreed, not-alike}
 use Rattle.parser.proofs.runs.agree.Given as given

@@ -3,7 +3,7 @@ use mathlib.Core.List.{List, _++_}
 use Prim.Native.Nat.{ℕ, _+_, _<_, _≤_}
 use native.Mathlib.Omega.{arith}
 use lib.ListN.{length, drop, length-append, length-drop}
-use Rattle.grammar.specs.Grammar.{IsKind, nth}
+use Rattle.grammar.specs.Grammar.{nth}
 use Rattle.grammar.specs.Sheet.{sheet}
 use Rattle.table.specs.Entry.{Entry}
 use Rattle.table.specs.declared.walk.Walk.{Walk}

@@ -1,4 +1,4 @@
-use mathlib.Core.Path.{sym, ap, ap₂, subst, _∙_, refl}
+use mathlib.Core.Path.{ap, ap₂, _∙_}
 use mathlib.Core.List.{_++_}
 use native.Mathlib.Omega.{arith}
 use lib.ListN.{length, drop}

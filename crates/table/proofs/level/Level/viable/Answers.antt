@@ -1,5 +1,5 @@
 use mathlib.Core.Path.{refl}
-use Rattle.table.proofs.Levels.{met-viable, unmet}
+use Rattle.table.proofs.Levels.{met-viable}
 use Rattle.table.proofs.level.Level.viable.Needs as need
 
 pub returns-in-Some : need.returns-in-Some

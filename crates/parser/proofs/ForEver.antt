@@ -13,7 +13,7 @@ use Rattle.parser.specs.declared.runs.Call.{Call}
 use Rattle.parser.specs.declared.runs.Call.the-variants.{Viable, Complete, Start, Take, Mark, Back, Keep}
 use Rattle.parser.specs.declared.runs.Answer.{Answer}
 use Rattle.parser.specs.declared.runs.Answer.the-variants.{Told, Done, Denied}
-use Rattle.parser.proofs.Meanings.{begins-same, same-sym, alike-refl, alike-sym, alike-trans, alike-started, alike-taken, alike-marked, alike-kept, alike-back}
+use Rattle.parser.proofs.Meanings.{begins-same, same-sym, alike-refl, alike-sym, alike-trans, alike-started, alike-taken, alike-marked, alike-kept, alike-returned}
 
 says-one : (a b : Answer) (P Q : Type 0) → (P → Q) → (Q → P) → Says a P → Says b Q → a ≡ b
 says-one (Told x) (Told y) P Q to back h k = ap Told (same-from-decides x y (decides-like x to back h) k)
@@ -85,7 +85,7 @@ module _ (m n : Meaning) (alike : Alike m n) where
   next-alike Start a = alike-started m n alike
   next-alike (Take kind) a = taken-alike kind a
   next-alike Mark a = alike-marked m n alike
-  next-alike Back a = alike-back m n alike
+  next-alike Back a = alike-returned m n alike
   next-alike Keep a = alike-kept m n alike
 
 pub for-ever : (calls : List Call) (m n : Meaning) → Alike m n → (answers others : List Answer) → Runs m calls answers → Runs n calls others → answers ≡ others

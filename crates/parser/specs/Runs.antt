@@ -6,7 +6,7 @@ use Prim.Native.Nat.{ℕ, _-_, _<_, _≤_}
 use lib.ListN.{length}
 use Rattle.std.specs.Orderings.{Decides}
 use Rattle.parser.specs.Sets.{Lists, Begins}
-use Rattle.parser.specs.Meaning.{Meaning, started, taken, marked, kept, back}
+use Rattle.parser.specs.Meaning.{Meaning, started, taken, marked, kept, returned}
 use Rattle.parser.specs.declared.Refused.the-variants.{NotViable, ReachSpent}
 use Rattle.parser.specs.declared.runs.Call.{Call}
 use Rattle.parser.specs.declared.runs.Call.the-variants.{Viable, Complete, Start, Take, Mark, Back, Keep}
@@ -62,7 +62,7 @@ next Complete a m = m
 next Start a m = started m
 next (Take kind) a m = takenIf kind a m
 next Mark a m = marked m
-next Back a m = back m
+next Back a m = returned m
 next Keep a m = kept m
 
 -- these calls, one after the other from this meaning, answer so

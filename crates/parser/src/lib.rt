@@ -5,7 +5,7 @@ ghost use mathlib.Core.List.{[]};
 ghost use Prim.Native.Nat.{ℕ, _≤_};
 ghost use Rattle.std.specs.Orderings.{Decides};
 ghost use Rattle.parser.specs.Sets.{Lists, Begins};
-ghost use Rattle.parser.specs.Meaning.{Mark, Alike, Takes, meaning, started, marked, kept, back as restored, numberOf};
+ghost use Rattle.parser.specs.Meaning.{Mark, Alike, Takes, meaning, started, marked, kept, returned, numberOf};
 
 mod expected;
 mod runs;
@@ -78,7 +78,7 @@ pub trait Stepping: Probing {
         ensures { λ _. ⌜ Alike (meaning language reach remainder left saved (now (self .exit))) (marked (meaning language reach remainder left saved (now (self .entry)))) ⌝ };
 
     fn back(&mut self)
-        ensures { λ _. ⌜ Alike (meaning language reach remainder left saved (now (self .exit))) (restored (meaning language reach remainder left saved (now (self .entry)))) ⌝ };
+        ensures { λ _. ⌜ Alike (meaning language reach remainder left saved (now (self .exit))) (returned (meaning language reach remainder left saved (now (self .entry)))) ⌝ };
 
     fn keep(&mut self)
         ensures { λ _. ⌜ Alike (meaning language reach remainder left saved (now (self .exit))) (kept (meaning language reach remainder left saved (now (self .entry)))) ⌝ };

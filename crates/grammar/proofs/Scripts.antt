@@ -1,16 +1,16 @@
 -- A derivation as a script that antt plays: 0 keeps the first symbol, n replaces it by production n, and at the
 -- script's end the rest is kept.
 -- Assumes nothing.
-use mathlib.Core.Path.{_≡_, refl, sym, subst, subst₂}
+use mathlib.Core.Path.{_≡_, refl, subst}
 use mathlib.Core.Bool.{Bool, true, false, _&&_}
 use mathlib.Core.List.{List, [], _∷_, _++_}
-use Prim.Native.Nat.{ℕ, zero, suc, _<_, _≤_}
+use Prim.Native.Nat.{ℕ, zero, suc}
 use native.Mathlib.Omega.{arith}
 use lib.Dec.{eqb, leb}
 use lib.ListN.{length}
 use borrow.Author.Tests.{eqb-true, leb-true, both-ways}
 use Rattle.std.proofs.shelf.Tests.{and-parts}
-use Rattle.grammar.specs.Grammar.{Production, Grammar, Numbered, Derives, done, keep, replace, nth}
+use Rattle.grammar.specs.Grammar.{Grammar, Derives, done, keep, replace, nth}
 use Rattle.grammar.proofs.Tests.{numbered}
 use Rattle.grammar.proofs.Derivations.{derives-refl}
 

@@ -1,17 +1,16 @@
 -- The sheet grammar's sets are exact: every member has a script that shows it, and the sets are closed, so that there
 -- are no other members.
 -- Assumes nothing.
-use mathlib.Core.Path.{_≡_, refl, sym, ap, subst, _∙_}
-use mathlib.Core.Bool.{Bool, true, false, _&&_, _||_}
+use mathlib.Core.Path.{_≡_, refl, sym, subst}
+use mathlib.Core.Bool.{Bool, true, false, _&&_}
 use mathlib.Core.Logic.{⊎-elim}
 use mathlib.Core.List.{List, [], _∷_, _++_}
-use Prim.Native.Nat.{ℕ, _-_, _<_, _≤_}
+use Prim.Native.Nat.{ℕ, _-_, _≤_}
 use native.Mathlib.Omega.{arith}
-use lib.Dec.{eqb, leb, ltb}
-use lib.ListN.{getD}
+use lib.Dec.{eqb, leb}
 use borrow.Author.Tests.{eqb-true, leb-true, le-leb, both-ways}
 use Rattle.std.specs.Orderings.{Decides}
-use Rattle.std.proofs.shelf.Tests.{and-parts, or-cases, cases-lt, cases-order}
+use Rattle.std.proofs.shelf.Tests.{and-parts, or-cases, cases-lt}
 use Rattle.grammar.specs.Grammar.{Derives, done, keep, replace, IsKind, IsNonterminal, Kinds, start, Nullable, CanBegin, CanFollow, among}
 use Rattle.grammar.specs.Sheet.{sheet}
 use Rattle.grammar.specs.Sets.{nullables, beginnerRows, followerRows, beginners, followers}
@@ -282,11 +281,11 @@ known-derived (replace {p = p} {x = x} n d) h =
     known-derived d (known-append (p .right) x (known-is (p .right) (at-each (λ n p. known (p .right)) sheet refl n)) (h .2))
 
 -- a list of the grammar's symbols derives some list of kinds
-pub all-productive-derive : (x : List ℕ) → Known x → (w : List ℕ) × Derives sheet x w × Kinds w
-all-productive-derive [] h = ([], done, tt)
-all-productive-derive (s ∷ x) h =
+pub kinds-derived : (x : List ℕ) → Known x → (w : List ℕ) × Derives sheet x w × Kinds w
+kinds-derived [] h = ([], done, tt)
+kinds-derived (s ∷ x) h =
     let one = productive s (h .0) (h .1) in
-    let rest = all-productive-derive x (h .2) in
+    let rest = kinds-derived x (h .2) in
     (one .0 ++ rest .0, derives-append (one .1) (rest .1), kinds-append (one .0) (rest .0) (one .2) (rest .2))
   where
     kinds-append : (u v : List ℕ) → Kinds u → Kinds v → Kinds (u ++ v)

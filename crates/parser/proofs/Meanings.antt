@@ -1,10 +1,10 @@
 -- To be alike is an equivalence, and each operation keeps it.
 -- Assumes nothing.
-use mathlib.Core.Path.{_≡_, refl, sym, ap, _∙_}
-use mathlib.Core.List.{List, _∷_}
+use mathlib.Core.Path.{refl, sym, ap, _∙_}
+use mathlib.Core.List.{_∷_}
 use Prim.Native.Nat.{ℕ, _-_}
 use Rattle.parser.specs.Sets.{Lists, Begins, Same}
-use Rattle.parser.specs.Meaning.{Mark, absent, holds, Meaning, SameMark, Alike, started, taken, marked, kept, restored, back}
+use Rattle.parser.specs.Meaning.{Mark, absent, holds, Meaning, SameMark, Alike, started, taken, marked, kept, restored, returned}
 
 pub same-refl : (A : Lists) → Same A A
 same-refl A w = (λ x. x, λ x. x)
@@ -71,5 +71,5 @@ alike-restored (holds A i) absent m n s h = absurd s
 alike-restored (holds A i) (holds B j) m n s h =
     record { language = h .language; reach = h .reach; remainder = s .0; left = s .1; mark = tt }
 
-pub alike-back : (m n : Meaning) → Alike m n → Alike (back m) (back n)
-alike-back m n h = alike-restored (m .mark) (n .mark) m n (h .mark) h
+pub alike-returned : (m n : Meaning) → Alike m n → Alike (returned m) (returned n)
+alike-returned m n h = alike-restored (m .mark) (n .mark) m n (h .mark) h

@@ -1,17 +1,16 @@
 -- Kinds taken one by one.
 -- Assumes nothing.
 use mathlib.Core.Path.{_≡_, refl, sym, ap, subst, _∙_}
-use mathlib.Core.Bool.{Bool, true, _&&_}
+use mathlib.Core.Bool.{Bool}
 use mathlib.Core.Logic.{_⊎_, inl, inr}
 use mathlib.Core.List.{List, [], _∷_, _++_, append-assoc, append-nil}
 use Prim.Native.Nat.{ℕ, _+_, _-_, _<_, _≤_}
 use native.Mathlib.Omega.{arith}
-use lib.Dec.{eqb}
-use lib.ListN.{length, getD, take, drop, length-append, take-append-drop}
+use lib.ListN.{length, getD, take, drop, take-append-drop}
 use Rattle.std.proofs.shelf.Lists.{take-more, take-all, drop-more, length-push, length-take-le}
-use Rattle.std.proofs.shelf.Tests.{and-parts, and-from, eqb-true, eq-eqb}
+use Rattle.std.proofs.shelf.Ways.{decides-like}
 use Rattle.std.specs.Orderings.{Decides}
-use Rattle.parser.specs.Sets.{Lists, Begins, Same}
+use Rattle.parser.specs.Sets.{Begins}
 use Rattle.std.specs.declared.result.Result.the-variants.{Err}
 use Rattle.parser.specs.Meaning.{Meaning, Alike, Takes, started, taken}
 use Rattle.parser.specs.declared.Refused.{Refused}
@@ -73,29 +72,25 @@ refusal-none kind m n NotViable t b h = t .0 b
 refusal-none kind m n ReachSpent t b h = omega (arith, t .1)
 
 -- a list is a sentence within reach exactly where, from a start, it is taken whole and the remainder then has the empty list
-pub accepted : (kinds : List ℕ) (r : ℕ) (b : Bool) (from fresh last : Meaning) → Alike fresh (started from) → r ≤ fresh .left → Alike last (after (take r kinds) fresh) → (BeginsWith (fresh .remainder) kinds → length kinds ≤ fresh .left → r ≡ length kinds) → Decides b (last .remainder []) → Decides (eqb r (length kinds) && b) (WithinReach from kinds)
-accepted kinds r b «from» fresh last begun paid so whole empty = (there, here)
+pub accepted : (kinds : List ℕ) (r : ℕ) (b : Bool) (from fresh last : Meaning) → Alike fresh (started from) → r ≤ fresh .left → Alike last (after (take r kinds) fresh) → (BeginsWith (fresh .remainder) kinds → length kinds ≤ fresh .left → r ≡ length kinds) → Decides b ((r ≡ length kinds) × last .remainder []) → Decides b (WithinReach from kinds)
+accepted kinds r b «from» fresh last begun paid so whole told = decides-like b there here told
   where
-    none : kinds ++ [] ≡ kinds
-    none = append-nil kinds
-
     all : r ≡ length kinds → take r kinds ++ [] ≡ kinds
     all e = append-nil (take r kinds) ∙ take-all r kinds (omega arith)
 
-    there : (eqb r (length kinds) && b) ≡ true → WithinReach «from» kinds
-    there t =
-        let parts = and-parts (eqb r (length kinds)) b t in
-        let e = eqb-true r (length kinds) (parts .0) in
+    there : (r ≡ length kinds) × last .remainder [] → WithinReach «from» kinds
+    there h =
+        let e = h .0 in
         let l = begun .left in
-        (begun .remainder kinds .0 (subst (fresh .remainder) (all e) (so .remainder [] .0 (empty .0 (parts .1)))), omega arith)
+        (begun .remainder kinds .0 (subst (fresh .remainder) (all e) (so .remainder [] .0 (h .1))), omega arith)
 
-    here : WithinReach «from» kinds → (eqb r (length kinds) && b) ≡ true
+    here : WithinReach «from» kinds → (r ≡ length kinds) × last .remainder []
     here h =
         let l = begun .left in
         let n = h .1 in
         let inside = begun .remainder kinds .1 (h .0) in
-        let e = whole ([], subst (fresh .remainder) (sym none) inside) (omega arith) in
-        and-from (eqb r (length kinds)) b (eq-eqb r (length kinds) e) (empty .1 (so .remainder [] .1 (subst (fresh .remainder) (sym (all e)) inside)))
+        let e = whole ([], subst (fresh .remainder) (sym (append-nil kinds)) inside) (omega arith) in
+        (e, so .remainder [] .1 (subst (fresh .remainder) (sym (all e)) inside))
 
 -- a start after a start and a run of kinds is as the first start was
 pub afresh : (kinds : List ℕ) (from fresh last end : Meaning) → Alike fresh (started from) → Alike last (after kinds fresh) → Alike end (started last) → Alike end (started from)

@@ -67,8 +67,8 @@ restored absent m = m
 restored (holds A n) m = record { language = m .language; reach = m .reach; remainder = A; left = n; mark = absent }
 
 -- back: what the mark holds is restored and the mark cleared
-abbrev pub back : Meaning → Meaning
-back m = restored (m .mark) m
+abbrev pub returned : Meaning → Meaning
+returned m = restored (m .mark) m
 
 -- the number of a refusal
 abbrev pub numberOf : Refused → ℕ

@@ -6,8 +6,7 @@ use Prim.Native.Nat.{ℕ, _-_, _<_, _≤_}
 use lib.ListN.{length}
 use Rattle.std.specs.Orderings.{Decides}
 use Rattle.parser.specs.Sets.{Lists, Begins}
-use Rattle.parser.specs.Meaning.{Meaning, Alike, started, taken, marked, kept, back}
-use Rattle.parser.specs.declared.Refused.{Refused}
+use Rattle.parser.specs.Meaning.{Meaning, started, taken, marked, kept, returned}
 use Rattle.parser.specs.declared.Refused.the-variants.{NotViable, ReachSpent}
 use Rattle.parser.specs.declared.runs.Call.{Call}
 use Rattle.parser.specs.declared.runs.Call.the-variants.{Viable, Complete, Start, Take, Mark, Back, Keep}
@@ -63,7 +62,7 @@ next Complete a m = m
 next Start a m = started m
 next (Take kind) a m = takenIf kind a m
 next Mark a m = marked m
-next Back a m = back m
+next Back a m = returned m
 next Keep a m = kept m
 
 -- these calls, one after the other from this meaning, answer so
@@ -76,3 +75,7 @@ Runs m (c ∷ cs) (a ∷ answers) = Answers m c a × Runs (next c a m) cs answer
 -- from these two meanings the same calls answer the same, however many they are
 abbrev pub SameForEver : Meaning → Meaning → Type 0
 SameForEver m n = (calls : List Call) (answers others : List Answer) → Runs m calls answers → Runs n calls others → answers ≡ others
+
+-- these calls can be answered alike from the two meanings
+abbrev pub Agree : Meaning → Meaning → List Call → Type 0
+Agree m n calls = (answers : List Answer) × Runs m calls answers × Runs n calls answers

@@ -5,7 +5,7 @@ ghost use mathlib.Core.List.{[]};
 ghost use Prim.Native.Nat.{ℕ, _≤_};
 ghost use Rattle.std.specs.Orderings.{Decides};
 ghost use Rattle.parser.specs.Sets.{Lists, Begins};
-ghost use Rattle.parser.specs.Meaning.{Mark, Alike, Takes, meaning, started, marked, kept, back as restored, numberOf};
+ghost use Rattle.parser.specs.Meaning.{Mark, Alike, Takes, meaning, started, marked, kept, returned, numberOf};
 
 mod expected;
 mod runs;
@@ -15,7 +15,7 @@ pub use expected::expected_kinds;
 pub use runs::Answer;
 pub use runs::Call;
 pub use runs::accepts;
-pub use runs::alike_for_ever;
+pub use runs::agree;
 pub use runs::perform;
 pub use runs::take_all;
 
@@ -69,17 +69,20 @@ pub trait Stepping: Probing {
     law reach_small: { (s : Self) → reach s ≤ 65535 };
 
     fn start(&mut self)
-        ensures { λ _. ⌜ Alike (meaning language reach (Self·Probing .remainder) left saved (now (self .exit))) (started (meaning language reach (Self·Probing .remainder) left saved (now (self .entry)))) ⌝ };
+        ensures { λ _. ⌜ Alike (meaning language reach remainder left saved (now (self .exit))) (started (meaning language reach remainder left saved (now (self .entry)))) ⌝ };
 
     fn take(&mut self, kind: u32) -> Result<(), Refused>
-        ensures { λ r. ⌜ Takes kind (meaning language reach (Self·Probing .remainder) left saved (now (self .entry))) r (meaning language reach (Self·Probing .remainder) left saved (now (self .exit))) ⌝ };
+        ensures { λ r. ⌜ Takes kind (meaning language reach remainder left saved (now (self .entry))) r (meaning language reach remainder left saved (now (self .exit))) ⌝ };
 
     fn mark(&mut self)
-        ensures { λ _. ⌜ Alike (meaning language reach (Self·Probing .remainder) left saved (now (self .exit))) (marked (meaning language reach (Self·Probing .remainder) left saved (now (self .entry)))) ⌝ };
+        ensures { λ _. ⌜ Alike (meaning language reach remainder left saved (now (self .exit))) (marked (meaning language reach remainder left saved (now (self .entry)))) ⌝ };
 
     fn back(&mut self)
-        ensures { λ _. ⌜ Alike (meaning language reach (Self·Probing .remainder) left saved (now (self .exit))) (restored (meaning language reach (Self·Probing .remainder) left saved (now (self .entry)))) ⌝ };
+        ensures { λ _. ⌜ Alike (meaning language reach remainder left saved (now (self .exit))) (returned (meaning language reach remainder left saved (now (self .entry)))) ⌝ };
 
     fn keep(&mut self)
-        ensures { λ _. ⌜ Alike (meaning language reach (Self·Probing .remainder) left saved (now (self .exit))) (kept (meaning language reach (Self·Probing .remainder) left saved (now (self .entry)))) ⌝ };
+        ensures { λ _. ⌜ Alike (meaning language reach remainder left saved (now (self .exit))) (kept (meaning language reach remainder left saved (now (self .entry)))) ⌝ };
 }
+
+#[cfg(test)]
+mod tests;

@@ -3,17 +3,17 @@
 use mathlib.Core.Path.{_≡_, refl, sym, ap, subst, _∙_}
 use mathlib.Core.Logic.{_⊎_, inl, inr, ⊎-elim, ∥∥₁-elim, ∥∥₁-map}
 use mathlib.Core.List.{List, [], _∷_, _++_, append-assoc}
-use Prim.Native.Nat.{ℕ, _<_, _≤_}
+use Prim.Native.Nat.{ℕ, _<_}
 use native.Mathlib.Bridge.{le-prop}
 use native.Mathlib.Nat.{ℕ-set}
 use native.Mathlib.Omega.{arith}
-use Rattle.grammar.specs.Grammar.{Production, Numbered, Derives, done, keep, replace, nth, start, IsKind, IsNonterminal, Kinds, CanFollow}
+use Rattle.grammar.specs.Grammar.{Production, Numbered, Derives, done, keep, replace, nth, start, IsKind, IsNonterminal, CanFollow}
 use Rattle.grammar.specs.Sheet.{sheet}
 use Rattle.grammar.proofs.Tests.{numbered-positive, numbered-nth}
 use Rattle.grammar.proofs.Derivations.{derives-refl, derives-append, derives-trans, derives-within, begin-parts}
 use Rattle.grammar.proofs.Closed.{left-high}
 use Rattle.grammar.proofs.SheetSets.{closed, Known, known-derived}
-use Rattle.table.specs.Entry.{Predicts, Entry}
+use Rattle.table.specs.Entry.{Entry}
 use Rattle.table.specs.Stack.{Ends, SameFor, Follows, Never}
 
 -- how a list that t begins is derived from one that another symbol begins

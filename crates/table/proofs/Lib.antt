@@ -3,3 +3,4 @@ pub mod Expand
 pub mod Sizes
 pub mod Laid
 pub mod Walks
+pub mod Levels

@@ -1,20 +1,21 @@
 -- The table's rule, proved at all of its entries by one test that antt computes, and carried to each entry.
 -- Assumes nothing.
-use mathlib.Core.Path.{_≡_, refl, sym, ap, subst, _∙_}
-use mathlib.Core.Bool.{Bool, true, false, _&&_, _||_, not}
+use mathlib.Core.Path.{_≡_, refl, subst}
+use mathlib.Core.Bool.{Bool, true, _&&_, _||_, not}
 use mathlib.Core.Logic.{_⊎_, inl, inr, ⊎-elim}
-use mathlib.Core.List.{List, [], _∷_}
-use Prim.Native.Nat.{ℕ, _+_, _-_, _<_, _≤_}
+use mathlib.Core.List.{[]}
+use Prim.Native.Nat.{ℕ, _+_, _-_, _≤_}
 use native.Mathlib.Omega.{arith}
 use lib.Dec.{eqb, leb}
 use lib.ListN.{getD}
-use borrow.Author.Tests.{eqb-true, eq-eqb, ne-eqb, leb-true, both-ways}
+use borrow.Author.Tests.{eqb-true, eq-eqb, ne-eqb, leb-true}
 use Rattle.std.proofs.shelf.Tests.{and-parts, and-from, or-cases, or-left, or-right, not-from-false}
-use Rattle.grammar.specs.Grammar.{Production, Numbered, nth, IsKind, Nullable, CanBegin, CanFollow}
+use Rattle.grammar.specs.Grammar.{Production, nth, IsKind, Nullable, CanBegin, CanFollow}
 use Rattle.grammar.specs.Sheet.{sheet}
-use Rattle.grammar.proofs.Tests.{implies, implied, below, at-below, each, at-each, numbered, numbered-positive}
+use Rattle.grammar.proofs.Tests.{implies, implied, below, at-below, each, at-each, numbered}
 use Rattle.grammar.proofs.Closed.{vanishes, begins, left-high}
 use Rattle.grammar.proofs.SheetSets.{null, begin, follow, closed, vanishes-exact, begins-exact, follow-test}
+use Rattle.table.specs.Cells.{cells}
 use Rattle.table.specs.Entry.{Predicts, Entry}
 
 -- the test of what it means that a production is for a and t
@@ -25,21 +26,6 @@ fits a t p = eqb (p .left) a && (begins null begin (p .right) t || (vanishes nul
 abbrev right : ℕ → ℕ → ℕ → Bool
 right a t e =
     each (λ n p. implies (fits a t p) (eqb n e)) 0 sheet && implies (not (eqb e 0)) ((leb 1 e && leb e 20) && fits a t (nth sheet e))
-
--- the table, as the test reads it
-abbrev pub cells : List (List ℕ)
-cells =
-    (0 ∷ 0 ∷ 1 ∷ 0 ∷ 0 ∷ 0 ∷ 0 ∷ 0 ∷ 0 ∷ 0 ∷ 0 ∷ 0 ∷ 0 ∷ 0 ∷ 0 ∷ []) ∷
-    (2 ∷ 0 ∷ 0 ∷ 2 ∷ 2 ∷ 0 ∷ 0 ∷ 0 ∷ 0 ∷ 0 ∷ 0 ∷ 0 ∷ 0 ∷ 0 ∷ 0 ∷ []) ∷
-    (0 ∷ 0 ∷ 0 ∷ 4 ∷ 3 ∷ 0 ∷ 0 ∷ 0 ∷ 0 ∷ 0 ∷ 0 ∷ 0 ∷ 0 ∷ 0 ∷ 0 ∷ []) ∷
-    (5 ∷ 0 ∷ 0 ∷ 6 ∷ 6 ∷ 0 ∷ 0 ∷ 0 ∷ 0 ∷ 0 ∷ 0 ∷ 0 ∷ 0 ∷ 0 ∷ 0 ∷ []) ∷
-    (0 ∷ 0 ∷ 0 ∷ 0 ∷ 0 ∷ 0 ∷ 0 ∷ 8 ∷ 0 ∷ 0 ∷ 0 ∷ 0 ∷ 0 ∷ 7 ∷ 0 ∷ []) ∷
-    (0 ∷ 0 ∷ 0 ∷ 10 ∷ 10 ∷ 0 ∷ 0 ∷ 0 ∷ 0 ∷ 0 ∷ 0 ∷ 0 ∷ 9 ∷ 0 ∷ 0 ∷ []) ∷
-    (12 ∷ 12 ∷ 0 ∷ 0 ∷ 0 ∷ 12 ∷ 0 ∷ 0 ∷ 0 ∷ 0 ∷ 11 ∷ 0 ∷ 0 ∷ 0 ∷ 12 ∷ []) ∷
-    (0 ∷ 0 ∷ 0 ∷ 14 ∷ 14 ∷ 0 ∷ 14 ∷ 0 ∷ 14 ∷ 13 ∷ 0 ∷ 0 ∷ 14 ∷ 0 ∷ 0 ∷ []) ∷
-    (15 ∷ 16 ∷ 0 ∷ 0 ∷ 0 ∷ 18 ∷ 0 ∷ 0 ∷ 0 ∷ 0 ∷ 0 ∷ 0 ∷ 0 ∷ 0 ∷ 17 ∷ []) ∷
-    (0 ∷ 0 ∷ 0 ∷ 0 ∷ 0 ∷ 0 ∷ 20 ∷ 0 ∷ 19 ∷ 0 ∷ 0 ∷ 0 ∷ 0 ∷ 0 ∷ 0 ∷ []) ∷
-    []
 
 all-right : below (λ i. below (λ j. right (i + 16) (j + 1) (getD (getD cells i []) j 0)) 15) 10 ≡ true
 unfolding null begin follow

@@ -1,20 +1,17 @@
 -- How long a walk goes on, and how many symbols it holds: two sizes that each production's right side keeps down.
 -- Assumes nothing.
-use mathlib.Core.Path.{_≡_, refl, sym, ap, subst}
+use mathlib.Core.Path.{_≡_, refl, sym, subst}
 use mathlib.Core.Bool.{Bool, true, false, cond, _||_}
 use mathlib.Core.List.{List, [], _∷_, _++_}
-use mathlib.Core.Logic.{⊎-elim}
-use Prim.Native.Nat.{ℕ, zero, suc, _+_, _<_, _≤_, max}
+use Prim.Native.Nat.{ℕ, suc, _+_, _<_, _≤_, max}
 use native.Mathlib.Omega.{arith}
 use lib.Dec.{ltb, leb, eqb}
 use lib.ListN.{length, length-append}
-use borrow.Author.Tests.{ltb-true, leb-true, lt-ltb, le-ltb}
-use Rattle.std.proofs.shelf.Tests.{cases-bool, cond-true, cond-false}
-use Rattle.grammar.specs.Grammar.{Production, Numbered, nth, IsNonterminal}
+use borrow.Author.Tests.{ltb-true, leb-true, le-ltb}
+use Rattle.std.proofs.shelf.Tests.{cond-false}
+use Rattle.grammar.specs.Grammar.{nth, IsNonterminal}
 use Rattle.grammar.specs.Sheet.{sheet}
 use Rattle.grammar.proofs.Tests.{each, at-each, numbered-nth}
-use Rattle.grammar.proofs.Closed.{left-high}
-use Rattle.grammar.proofs.SheetSets.{closed}
 use Rattle.table.specs.Entry.{Entry}
 
 -- how many expansions a nonterminal may still bring

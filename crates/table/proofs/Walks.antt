@@ -9,7 +9,7 @@ use lib.ListN.{length, drop}
 use Rattle.grammar.specs.Grammar.{Derives, IsKind, IsNonterminal, nth}
 use Rattle.grammar.specs.Sheet.{sheet}
 use Rattle.table.specs.Entry.{Entry}
-use Rattle.table.specs.Stack.{Ends, SameFor, Follows, Never}
+use Rattle.table.specs.Stack.{Ends, SameFor, Never}
 use Rattle.table.specs.Walk.{Further, Met}
 use Rattle.table.proofs.Expand.{entry-zero, entry-expands, ends-expand, ends-pop, kind-other, kind-met, empty-never}
 use Rattle.table.proofs.Sizes.{steps, spread, steps-expand, spread-expand, spread-one, spread-length}

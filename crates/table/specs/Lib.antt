@@ -1,3 +1,5 @@
+pub mod Cells
 pub mod Entry
 pub mod Stack
 pub mod Walk
+pub mod Level

@@ -19,7 +19,7 @@ const NONTERMINAL: u8 = 16;
 
 // The symbols ahead are those from `first` on, and what is left of the stack begins at `below`.
 #[derive(Clone, Copy)]
-pub struct Walk {
+pub(crate) struct Walk {
     ahead: [u8; AHEAD],
     first: usize,
     below: usize,
@@ -28,7 +28,7 @@ pub struct Walk {
 }
 
 // Lays the symbols, in their order, right before the place `top`, and answers where they begin.
-pub fn lay(places: &mut [u8], top: usize, symbols: &[u8]) -> usize
+pub(crate) fn lay(places: &mut [u8], top: usize, symbols: &[u8]) -> usize
     requires { ⌜ (top ≤ length (now places)) × (length (now symbols) ≤ top) ⌝ }
     ensures begins { λ r. ⌜ r + length (now (symbols .entry)) ≡ top ⌝ }
     ensures laid { λ r. ⌜ rest r (now (places .exit)) ≡ now (symbols .entry) ++ rest top (now (places .entry)) ⌝ }
@@ -54,6 +54,20 @@ impl Walk {
             first: AHEAD,
             below: top,
         }
+    }
+
+    // The symbols ahead.
+    pub(crate) fn ahead(&self) -> &[u8]
+        ensures { λ r. ⌜ now r ≡ rest (now (self .entry) .first) (now (self .entry) .ahead) ⌝ }
+    {
+        &self.ahead[self.first..]
+    }
+
+    // Where what is left of the stack begins.
+    pub(crate) fn below(&self) -> usize
+        ensures { λ r. ⌜ r ≡ now (self .entry) .below ⌝ }
+    {
+        self.below
     }
 
     // The next symbol, which is passed.
@@ -85,7 +99,7 @@ impl Walk {
 
 // Walks down the stack, the places from `top` on, until the kind stands first: what is then left derives what may
 // follow the kind. There is no such walk where the kind is not viable.
-pub fn meet(places: &[u8], top: usize, kind: u32) -> Option<Walk>
+pub(crate) fn meet(places: &[u8], top: usize, kind: u32) -> Option<Walk>
     requires { ⌜ (top ≤ length (now places)) × Ends (rest top (now places)) ⌝ }
     ensures { λ r. ⌜ BySome r (IsKind kind → Never kind (rest top (now (places .entry)))) (λ w. Met kind (now (places .entry)) top (rest (w .first) (w .ahead)) (w .below)) ⌝ }
 {

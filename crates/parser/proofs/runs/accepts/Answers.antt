@@ -16,6 +16,6 @@ returns g c =
     let last = means g (c .take-all-count .last .parser) in
     let run = c .take-all-count .ensures in
     record {
-      decides = accepted kinds r (c .complete-complete .result) was fresh last (c .start .ensures) (run .paid) (run .steps) (run .prefix) (c .complete-complete .ensures);
+      decides = accepted kinds r (c .finished-answer .result) was fresh last (c .start .ensures) (run .paid) (run .steps) (run .prefix) (c .finished-answer .ensures);
       fresh = afresh (take r kinds) was fresh last (means g (c .start-2 .last .self)) (c .start .ensures) (run .steps) (c .start-2 .ensures);
     }

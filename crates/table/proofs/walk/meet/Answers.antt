@@ -3,7 +3,7 @@ use mathlib.Core.List.{List, _++_}
 use Prim.Native.Nat.{ℕ, _+_, _<_, _≤_}
 use native.Mathlib.Omega.{arith}
 use lib.ListN.{length, drop, length-append, length-drop}
-use Rattle.grammar.specs.Grammar.{IsKind, nth}
+use Rattle.grammar.specs.Grammar.{nth}
 use Rattle.grammar.specs.Sheet.{sheet}
 use Rattle.table.specs.Entry.{Entry}
 use Rattle.table.specs.declared.walk.Walk.{Walk}
@@ -54,7 +54,7 @@ loop-symbol-less c =
     let was = c .loop-symbol .walk in
     let now = c .next .last .self in
     let then = c .put .last .self in
-    let is = c .put .ensures .ahead ∙ ap (λ x. x ++ ahead now) (c .right-side .ensures) in
+    let is : ahead then ≡ nth sheet (c .entry-production .result) .right ++ ahead now = c .put .ensures .ahead ∙ ap (λ x. x ++ ahead now) (c .right-side .ensures) in
     let less = walk-falls (c .args .kind) (c .args .places .now) (c .args .top) (ahead was) (was .below) (c .in-Some .symbol) (ahead now) (now .below) (c .loop-symbol .inv) (c .in-Some .ensures tt) (c .entry-production .result) (omega arith, omega arith) (c .if-symbol-lt-NONTERMINAL .left) (c .entry-production .ensures) (c .if-production-eq0 .left) (ahead then) is in
     subst (λ b. steps (ahead then ++ drop b (c .args .places .now)) < steps (ahead was ++ drop (was .below) (c .args .places .now))) (sym (c .put .ensures .below)) less
 
@@ -63,7 +63,7 @@ loop-symbol-again c =
     let was = c .loop-symbol .walk in
     let now = c .next .last .self in
     let then = c .put .last .self in
-    let is = c .put .ensures .ahead ∙ ap (λ x. x ++ ahead now) (c .right-side .ensures) in
+    let is : ahead then ≡ nth sheet (c .entry-production .result) .right ++ ahead now = c .put .ensures .ahead ∙ ap (λ x. x ++ ahead now) (c .right-side .ensures) in
     let on = walk-goes-on (c .args .kind) (c .args .places .now) (c .args .top) (ahead was) (was .below) (c .in-Some .symbol) (ahead now) (now .below) (c .loop-symbol .inv) (c .in-Some .ensures tt) (c .entry-production .result) (omega arith, omega arith) (c .if-symbol-lt-NONTERMINAL .left) (c .entry-production .ensures) (c .if-production-eq0 .left) (ahead then) is in
     subst (Walking (c .args .kind) (c .args .places .now) (c .args .top) (ahead then)) (sym (c .put .ensures .below)) on
 

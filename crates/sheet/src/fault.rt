@@ -1,6 +1,8 @@
 // Why a sheet, or a call for it, is refused, and where.
 ghost use mathlib.Core.Path.{_≡_};
+ghost use Rattle.std.specs.declared.option.Option.the-variants.{Some};
 ghost use Rattle.sheet.specs.Faults.{known, layer-number};
+ghost use Rattle.sheet.specs.Shown.{fault-text};
 use std::fmt;
 
 // The layer that refuses.
@@ -101,6 +103,8 @@ impl Reason {
 
 // Line, column, layer, number and context, with `-` for an absent one.
 pub impl fmt::Display for Fault as FaultDisplay {
+    ghost shown = { λ x. Some (fault-text x) };
+
     fn fmt<W: fmt::Write>(&self, f: &mut fmt::Formatter<W>) -> fmt::Result {
         let line = self.line;
         let column = self.column;

@@ -1,6 +1,8 @@
 // What a sheet is made of: kinds, the lexemes that the reader finds and the tokens that the resolver writes.
 ghost use mathlib.Core.Path.{_≡_};
+ghost use Rattle.std.specs.declared.option.Option.the-variants.{Some};
 ghost use Rattle.sheet.specs.Kinds.{kind-number, Numbered, opens};
+ghost use Rattle.sheet.specs.Shown.{lexeme-text};
 use std::fmt;
 
 // The fifteen kinds of lexemes.
@@ -95,6 +97,8 @@ pub struct Token {
 
 // Line, column, kind, flag (1 or 0), offset and length.
 pub impl fmt::Display for Lexeme as LexemeDisplay {
+    ghost shown = { λ x. Some (lexeme-text x) };
+
     fn fmt<W: fmt::Write>(&self, f: &mut fmt::Formatter<W>) -> fmt::Result {
         let line = self.line;
         let column = self.column;

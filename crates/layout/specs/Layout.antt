@@ -41,3 +41,7 @@ Turns G ls p out = Resolves G [] [] Nothing ls p out
 -- into a sentence of the language
 abbrev pub TurnsIntoSentence : Lists → List Lexeme → Place → Type 0
 TurnsIntoSentence G ls p = (out : List Token) × (Turns G ls p out × G (kinds out))
+
+-- the rules are single-valued: they turn a sheet into one list of tokens at most
+abbrev pub SingleValued : Lists → Type 0
+SingleValued G = (ls : List Lexeme) (p : Place) (out out′ : List Token) → Turns G ls p out → Turns G ls p out′ → out ≡ out′

@@ -2,6 +2,7 @@
 ghost use mathlib.Core.Path.{_≡_};
 ghost use mathlib.Core.List.{List, []};
 ghost use Prim.Native.Nat.{ℕ};
+ghost use Rattle.layout.specs.Layout.{SingleValued};
 ghost use Rattle.layout.specs.Marks.{column};
 ghost use Rattle.std.specs.Orderings.{Decides};
 ghost use Rattle.layout.specs.First.{block-rule, close-rule, end-rule, innermost-of, line-rule};
@@ -227,6 +228,7 @@ fn rule_at_lexeme<P: Probing>(parser: &P, kind: u32, innermost: Option<u32>) -> 
 pub fn rule_at<P: Probing>(parser: &P, mark: Mark, coming: &Coming, innermost: Option<u32>) -> Rule
     ensures applies { λ r. ⌜ ((ks : List ℕ) → innermost-of ks ≡ innermost → Applies (remainder (now (parser .entry))) [] mark (now (coming .entry)) ks r) ⌝ }
     ensures only { λ r. ⌜ ((ks : List ℕ) (s : Rule) → innermost-of ks ≡ innermost → Applies (remainder (now (parser .entry))) [] mark (now (coming .entry)) ks s → s ≡ r) ⌝ }
+    ensures single { λ _. ⌜ SingleValued (remainder (now (parser .entry))) ⌝ }
 {
     match mark {
         Mark::Line => rule_at_line(coming.column(), innermost),

@@ -5,3 +5,4 @@ pub mod Inserts
 pub mod Shifts
 pub mod Running
 pub mod Exits
+pub mod Determined

@@ -69,13 +69,13 @@ module _ (G : Lists) (u : List ℕ) where
   single-rule (block-left-open e) (block-left-open e′) = refl
 
 -- how a rule goes on tells the ways apart
-abbrev way : Onward → ℕ
+abbrev pub way : Onward → ℕ
 way (at-mark m) = 0
 way lexeme-written = 1
 way ended = 2
 way undefined = 3
 
-abbrev mark-in : Onward → Mark → Mark
+abbrev pub mark-in : Onward → Mark → Mark
 mark-in (at-mark m) d = m
 mark-in lexeme-written d = d
 mark-in ended d = d

@@ -4,3 +4,4 @@ pub mod Layout
 pub mod Limits
 pub mod Marks
 pub mod Rules
+pub mod Service

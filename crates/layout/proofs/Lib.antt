@@ -6,3 +6,4 @@ pub mod Shifts
 pub mod Running
 pub mod Exits
 pub mod Determined
+pub mod Calls

@@ -91,7 +91,7 @@ module _ (G H : Lists) (same : Same G H) where
       let marks : x′ ≡ x = ap (λ w. mark-in w m) (sym e′ ∙ ap onward (sym same) ∙ e) in
       let lefts : n′ ≡ n = sym (ap (or-zero) (goes-alike g (subst (λ y. Goes H (length ks) u left (inserts y) (Ok n′)) (sym same) g′))) in
       let moved = subst (λ y. Runs H (u ++ inserts r) y (leaves r (column c) ks) x c p) lefts (subst (λ y. Runs H (u ++ inserts r) n′ (leaves r (column c) ks) y c p) marks
-              (subst (λ y. Runs H (u ++ inserts y) n′ (leaves y (column c) ks) x′ c p) (sym same) rest′)) in
+      (subst (λ y. Runs H (u ++ inserts y) n′ (leaves y (column c) ks) x′ c p) (sym same) rest′)) in
       ap (and-before (map (inserted c) (inserts r))) (runs-alike rest moved) ∙ ap (λ y. and-before (map (inserted c) (inserts y)) p) same
   runs-alike {u} {left} {ks} (goes-on a e g rest) (stops {why = w′} a′ e′ g′) = absurd (true≢false (ap isOk (goes-alike g (subst (λ y. Goes H (length ks) u left (inserts y) (Err w′)) (sym (one-rule a a′)) g′))))
   runs-alike (goes-on a e g rest) (writes a′ e′ g′) = absurd (omega (arith, ap way (sym e ∙ ap onward (one-rule a a′) ∙ e′)))

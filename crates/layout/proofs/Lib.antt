@@ -7,3 +7,5 @@ pub mod Running
 pub mod Exits
 pub mod Determined
 pub mod Calls
+pub mod Sofar
+pub mod Finish

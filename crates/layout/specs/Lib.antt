@@ -1,5 +1,6 @@
 pub mod Drafts
 pub mod First
+pub mod Law
 pub mod Layout
 pub mod Limits
 pub mod Marks

@@ -90,10 +90,10 @@ module _ (G : Lists) (reach : ℕ) where
     begin-open : {s : State} {n : ℕ} → s .sheet ≡ Some n → Does s begin (refused (fault s 0 0 SheetOpen)) [] s
     begin-spent : {s : State} → s .sheet ≡ None → 2 ^ 64 ≤ s .next → Does s begin (refused (fault s 0 0 NumbersSpent)) [] s
     feeds : {s : State} {t : ℕ} {l : Lexeme} {free : ℕ} {x : Laid} → s .sheet ≡ Some t → Good l → Feeds s l (Ok x) → length (x .tokens) ≤ free
-      → Does s (feed t l free) (count (length (x .tokens))) (x .tokens) (record { sheet = s .sheet; next = s .next; contexts = x .contexts; before = after (l .kind); written = s .written ++ kinds (x .tokens) })
+        → Does s (feed t l free) (count (length (x .tokens))) (x .tokens) (record { sheet = s .sheet; next = s .next; contexts = x .contexts; before = after (l .kind); written = s .written ++ kinds (x .tokens) })
     feed-fails : {s : State} {t : ℕ} {l : Lexeme} {free : ℕ} {why : Reason} → FeedFails s t l free why → Does s (feed t l free) (refused (fault s (l .line) (l .column) why)) [] s
     finishes : {s : State} {t : ℕ} {p : Place} {free : ℕ} {x : Laid} → s .sheet ≡ Some t → Finishes s p (Ok x) → G (s .written ++ kinds (x .tokens)) → length (x .tokens) ≤ free
-      → Does s (finish t p free) (count (length (x .tokens))) (x .tokens) (record { sheet = None; next = s .next; contexts = []; before = s .before; written = s .written ++ kinds (x .tokens) })
+        → Does s (finish t p free) (count (length (x .tokens))) (x .tokens) (record { sheet = None; next = s .next; contexts = []; before = s .before; written = s .written ++ kinds (x .tokens) })
     finish-fails : {s : State} {t : ℕ} {p : Place} {free : ℕ} {why : Reason} → FinishFails s t p free why → Does s (finish t p free) (refused (fault s (p .line) (p .column) why)) [] s
     gives-up : {s : State} {t : ℕ} → s .sheet ≡ Some t → Does s (give-up t) closed [] (record { sheet = None; next = s .next; contexts = []; before = s .before; written = s .written })
     give-up-fails : {s : State} {t : ℕ} → (s .sheet ≡ Some t → ⊥) → Does s (give-up t) (refused (fault s 0 0 WrongTicket)) [] s

@@ -9,3 +9,4 @@ pub mod Determined
 pub mod Calls
 pub mod Sofar
 pub mod Finish
+pub mod Shapes

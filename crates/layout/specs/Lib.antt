@@ -6,3 +6,4 @@ pub mod Limits
 pub mod Marks
 pub mod Rules
 pub mod Service
+pub mod Shape

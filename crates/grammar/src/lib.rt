@@ -1,5 +1,8 @@
 // Context-free grammars, defined once for every parser: productions, what they derive, what can begin and what
 // can follow (specs/Grammar.antt), and the grammar of sheets with its productions at hand.
+
+#![tactic(auto)]
+
 ghost use Rattle.std.specs.Prelude.{◌≡◌, ℕ, [], ◌∷◌, Decides};
 ghost use Rattle.grammar.specs.Grammar.{nth, among, IsNonterminal, Nullable, CanBegin, CanFollow};
 ghost use Rattle.grammar.specs.Sheet.{sheet};

@@ -15,7 +15,8 @@ use Rattle.layout.specs.declared.call.Call.TheVariants.{Finish as finish}
 use Rattle.layout.specs.declared.rule.Before.TheVariants.{Nothing}
 use Rattle.layout.proofs.Finish.{sentence, stands}
 use Rattle.layout.proofs.Marked.{due, due_following, not_the_start, ready_end, ready_lexeme}
-use Rattle.layout.proofs.Paths.{Path, here, path_on}
+use Rattle.layout.proofs.Paths.{path_on}
+use Rattle.layout.specs.Shape.{Path, here}
 use Rattle.layout.proofs.Shapes.{runs_shaped}
 
 -- some tokens, and no more of them than were left

@@ -20,7 +20,7 @@ use Rattle.layout.specs.declared.rule.Before.TheVariants.{Nothing, BlockKeyword,
 use Rattle.layout.specs.declared.rule.Coming.TheVariants.{Lexeme as lexeme, End as ending}
 use Rattle.layout.specs.declared.rule.Mark.TheVariants.{None, Line}
 use Rattle.layout.proofs.Marked.{due, due_following, no_block}
-use Rattle.layout.proofs.Paths.{Path, closes, here, opens, other}
+use Rattle.layout.specs.Shape.{Path, closes, here, opens, other}
 
 -- so many explicit blocks
 abbrev explicits : ℕ → List ℕ

@@ -1,13 +1,6 @@
--- The shape of what is written: braces within the depth limit, and a { first and after each block keyword. Assumes nothing.
-use Rattle.std.proofs.Common.{◌≡◌, ℕ, suc, ◌<◌, ◌≤◌, Bool, false, List, [], ◌∷◌, ◌++◌}
-use Rattle.layout.specs.Marks.{opens_block}
-
--- from a depth and a flag that a { is due, kinds lead to another depth and flag
-pub data Path : ℕ → Bool → List ℕ → ℕ → Bool → Type 0 where
-  here : {d : ℕ} {b : Bool} → Path d b [] d b
-  opens : {d d' : ℕ} {b b' : Bool} {ks : List ℕ} → d < 64 → Path (suc d) false ks d' b' → Path d b (3 ∷ ks) d' b'
-  closes : {d d' : ℕ} {b' : Bool} {ks : List ℕ} → Path d false ks d' b' → Path (suc d) false (4 ∷ ks) d' b'
-  other : {k d d' : ℕ} {b' : Bool} {ks : List ℕ} → (k ≡ 3 → ⊥) → (k ≡ 4 → ⊥) → 1 ≤ k → k ≤ 15 → Path d (opens_block k) ks d' b' → Path d false (k ∷ ks) d' b'
+-- Paths of kinds, one after another.
+use Rattle.std.proofs.Common.{◌++◌, List, ℕ, Bool}
+use Rattle.layout.specs.Shape.{Path, here, opens, closes, other}
 
 -- one path after another
 pub path_on : {d e f : ℕ} {b c a : Bool} {ks ls : List ℕ} → Path d b ks e c → Path e c ls f a → Path d b (ks ++ ls) f a

@@ -17,7 +17,8 @@ use Rattle.layout.specs.declared.rule.Mark.TheVariants.{None, Line, Block}
 use Rattle.layout.specs.declared.rule.Onward.TheVariants.{Lexeme as lexeme_written, End as ended}
 use Rattle.layout.specs.declared.rule.Rule.{Rule}
 use Rattle.layout.proofs.Exits.{kinds_inserted}
-use Rattle.layout.proofs.Paths.{Path, closes, here, opens, other, path_on}
+use Rattle.layout.proofs.Paths.{path_on}
+use Rattle.layout.specs.Shape.{Path, closes, here, opens, other}
 use Rattle.layout.proofs.Single.{mark_in, way}
 
 -- where a { is due before what comes: at the mark of a block, or at a typed {

@@ -10,3 +10,4 @@ pub mod Marks
 pub mod Moves
 pub mod Rules
 pub mod Service
+pub mod Shape

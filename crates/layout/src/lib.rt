@@ -1,5 +1,8 @@
 // The layout rules: where blocks open, separate and close in a sheet that is typed by indentation, after function L
 // of the Haskell 2010 Report, section 10.3.
+
+#![tactic(auto)]
+
 mod call;
 mod draft;
 mod journal;

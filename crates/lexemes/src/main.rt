@@ -1,5 +1,8 @@
 // Lists the lexemes of the sheet on standard input: a line for each, the faults in their places, and last how many
 // there were of both.
+
+#![tactic(auto)]
+
 ghost use Rattle.std.specs.Prelude.{◌≡◌, ◌<◌, [], OnOk};
 ghost use Rattle.queue.specs.Waiting.{capacity, waiting};
 

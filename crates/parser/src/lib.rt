@@ -1,5 +1,8 @@
 // What a parser means: the small interface that probes it and the larger one that steps it, for the
 // layout resolver above and for every parser below. docs/parsers.md says it in words.
+
+#![tactic(auto)]
+
 ghost use Rattle.std.specs.Prelude.{◌≡◌, ℕ, ◌≤◌, [], Decides};
 ghost use Rattle.parser.specs.Sets.{Lists, Begins};
 ghost use Rattle.parser.specs.Meaning.{Mark, Alike, Takes, meaning, started, marked, kept, returned, number_of};

@@ -132,8 +132,6 @@ module _ (t : List ℕ) (c : Cursor) (placed : Placed t c) where
       by_bytes true e = subst LinePassed (sym (is ∙ cond-true _ _ _ e)) (two_passed e)
       by_bytes false e = by_end e (line_end (class (byte t c.offset))) refl
 
--- a line end has some bytes
-pub some_line_end : (t : List ℕ) (i : ℕ) → class (byte t i) ≡ LineEnd → line_end_length (drop i t) ≡ 0 → ⊥
-some_line_end t i is none =
-    let ends : line_end (class (byte (drop i t) 0)) ≡ true = ap (λ b. line_end (class b)) (first_byte t i) ∙ ap line_end is in
-    grind (arith, nat_tests)
+-- where no line end stands, the byte is none
+pub no_line_end_here : (t : List ℕ) (i : ℕ) → 0 ≡ line_end_length (drop i t) → line_end (class (byte t i)) ≡ false
+no_line_end_here t i e = ap (λ b. line_end (class b)) (sym (first_byte t i)) ∙ grind (arith, nat_tests)

@@ -1,8 +1,9 @@
 // Where the reader stands: an offset with its line, its column and whether only blanks stand before it on its line.
-ghost use Rattle.std.specs.Prelude.{◌≡◌, ◌+◌, ◌*◌, ◌<◌, ◌≤◌, true, false, MatchOption};
+ghost use Rattle.std.specs.Prelude.{◌≡◌, ◌+◌, ◌*◌, ◌<◌, ◌≤◌, true, false, length, MatchOption};
+ghost use Rattle.reader.specs.Classes.{class, line_end};
 ghost use Rattle.reader.specs.Cursors.{NoGap, Passed, Placed, Short};
 ghost use Rattle.reader.specs.Items.{items};
-ghost use Rattle.reader.specs.Places.{line_end_length, next_column, short_line_end_length};
+ghost use Rattle.reader.specs.Places.{byte, line_end_length, next_column, short_line_end_length};
 
 use crate::class::{Class, class_of};
 
@@ -69,6 +70,23 @@ impl Cursor {
         }
     }
 
+    // After the blank that stands here, or none where another byte or the end does.
+    fn after_any_blank(self, text: &[u8]) -> Option<Cursor>
+        requires short { Short text.now }
+        requires placed { Placed text.now self }
+        requires within_line { self.offset < length text.now → line_end (class (byte text.now self.offset)) ≡ false }
+        ensures { MatchOption result (NoGap text.now self.offset) (Passed text.now self.offset) }
+    {
+        let at = self.offset;
+        if at >= text.len() {
+            return None;
+        }
+        match class_of(text[at]) {
+            Class::Blank => Some(self.after_blank(text[at])),
+            _ => None,
+        }
+    }
+
     // After the blank or the line end that stands here, or none where another byte or the end does.
     fn after_gap(self, text: &[u8]) -> Option<Cursor>
         requires short { Short text.now }
@@ -76,13 +94,9 @@ impl Cursor {
         ensures { MatchOption result (NoGap text.now self.offset) (Passed text.now self.offset) }
     {
         let at = self.offset;
-        if at == text.len() {
-            return None;
-        }
-        match class_of(text[at]) {
-            Class::Blank => Some(self.after_blank(text[at])),
-            Class::LineEnd => Some(self.after_line_end(line_end_length(&text[at..]))),
-            _ => None,
+        match line_end_length(&text[at..]) {
+            0 => self.after_any_blank(text),
+            bytes => Some(self.after_line_end(bytes)),
         }
     }
 

@@ -1,4 +1,7 @@
 // Bytes to lexemes: finds the lexemes of a sheet's text, each with its place, and refuses what is none.
+
+#![tactic(auto)]
+
 mod class;
 mod cursor;
 mod item;

@@ -18,5 +18,5 @@ context_text (Some c) = decimal c
 -- line, column, layer, number and context
 abbrev pub fault_text : Fault → List ℕ
 fault_text f =
-    decimal f.line ++ (codes " " ++ (decimal f.column ++ (codes " " ++ (decimal (layer_number (known f.reason).layer) ++ (codes " " ++
-    (decimal (known f.reason).number ++ (codes " " ++ context_text f.context)))))))
+    (decimal f.line ++ (codes " " ++ (decimal f.column ++ (codes " " ++ (decimal (layer_number (known f.reason).layer) ++ (codes " " ++
+    (decimal (known f.reason).number ++ codes " "))))))) ++ context_text f.context

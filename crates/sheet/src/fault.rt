@@ -1,7 +1,7 @@
 // Why a sheet, or a call for it, is refused, and where.
 ghost use Rattle.std.specs.Prelude.{◌≡◌, Some};
 ghost use Rattle.sheet.specs.Faults.{known, layer_number};
-ghost use Rattle.sheet.specs.Shown.{context_text, fault_text};
+ghost use Rattle.sheet.specs.Shown.{fault_text};
 
 use std::fmt;
 
@@ -101,23 +101,7 @@ impl Reason {
     }
 }
 
-// A context on its own.
-#[derive(Clone, Copy)]
-struct Context(Option<u32>);
-
-// A column, or `-` for an absent one.
-impl fmt::Display for Context {
-    ghost output = { λ x. Some (context_text x.0) };
-
-    fn fmt<W: fmt::Write>(&self, f: &mut fmt::Formatter<W>) -> fmt::Result {
-        match self.0 {
-            Some(column) => write!(f, "{column}"),
-            None => write!(f, "-"),
-        }
-    }
-}
-
-// Line, column, layer, number and context.
+// Line, column, layer, number and context, with `-` for an absent one.
 impl fmt::Display for Fault {
     ghost output = { λ x. Some (fault_text x) };
 
@@ -126,7 +110,10 @@ impl fmt::Display for Fault {
         let column = self.column;
         let layer = self.reason.layer().number();
         let number = self.reason.number();
-        let context = Context(self.context);
-        write!(f, "{line} {column} {layer} {number} {context}")
+        write!(f, "{line} {column} {layer} {number} ")?;
+        match self.context {
+            Some(context) => write!(f, "{context}"),
+            None => write!(f, "-"),
+        }
     }
 }

@@ -1,7 +1,7 @@
 -- A stack laid anew, and what is viable at it.
 -- Assumes nothing.
-use Rattle.std.proofs.Common.{◌≡◌, ℕ, ◌+◌, ◌-◌, ◌<◌, ◌≤◌, List, [], ◌∷◌, ◌++◌, length, get_or, take, drop, sym, refl, ap, ◌∙◌, subst, arith}
-use Rattle.std.proofs.lemmas.List.{drop_more, drop-drop, take-append-drop}
+use Rattle.std.proofs.Common.{◌≡◌, ℕ, ◌+◌, ◌-◌, ◌<◌, ◌≤◌, List, [], ◌∷◌, ◌++◌, length, get_or, take, drop, sym, refl, ap, ◌∙◌, subst, append-nil, arith}
+use Rattle.std.proofs.lemmas.List.{drop_all, drop_more, drop-drop, take_rest, take-append-drop, length-take, length-drop}
 use Rattle.grammar.specs.Grammar.{Derives, Kinds, IsKind, start}
 use Rattle.grammar.specs.Sheet.{sheet}
 use Rattle.grammar.proofs.Derivations.{derives_append, null_parts}
@@ -10,10 +10,21 @@ use Rattle.parser.specs.Sets.{Begins}
 use Rattle.parser.specs.Meaning.{Alike, absent, taken}
 use Rattle.parser.proofs.Meanings.{same_refl}
 use Rattle.table.specs.Stack.{Ends, Never, Follows}
-use Rattle.table.specs.Steps.{left_of}
-use Rattle.table.specs.Walk.{Found}
+use Rattle.table.specs.Walk.{Met}
 use Rattle.table.specs.Level.{remains, means}
 use Rattle.table.proofs.Expand.{ends_start, ends_known}
+
+-- laid before the end of all places, the symbols are the whole stack
+pub laid_last : (places : List ℕ) (x y : List ℕ) → length places ≡ 3073 → y ≡ x ++ drop 3073 places → y ≡ x
+laid_last places x y long so = so ∙ ap (λ l. x ++ l) (drop_all 3073 places (omega arith)) ∙ append-nil x
+
+-- the used part of other places is laid
+pub copied : (places other : List ℕ) (top : ℕ) (y : List ℕ) → length places ≡ 3073 → length other ≡ 3073 → y ≡ take (3073 - top) (drop top other) ++ drop 3073 places → y ≡ drop top other
+copied places other top y long deep so =
+    laid_last places (take (3073 - top) (drop top other)) y long so ∙ ap (λ n. take (n - top) (drop top other)) (sym deep) ∙ take_rest other top
+
+pub copied_top : (other : List ℕ) (top r : ℕ) → length other ≡ 3073 → top ≤ 3073 → r + length (take (3073 - top) (drop top other)) ≡ 3073 → r ≡ top
+copied_top other top r deep inside at = omega (arith, length-take (3073 - top) (drop top other), length-drop top other)
 
 pub ends_same : (x y : List ℕ) → y ≡ x → Ends x → Ends y
 ends_same x y e ends = subst Ends (sym e) ends
@@ -26,9 +37,9 @@ some_kinds : (x : List ℕ) → Ends x → (w : List ℕ) × Derives sheet x w �
 some_kinds x ends = kinds_derived x (ends_known x ends)
 
 -- a kind that is met is viable
-pub met_viable : (kind : ℕ) (places : List ℕ) (top left below : ℕ) → Found kind places top left below → Begins (remains (drop top places)) kind
-met_viable kind places top left below m =
-    let some = some_kinds (left_of left ++ drop below places) m.ends in
+pub met_viable : (kind : ℕ) (places : List ℕ) (top : ℕ) (ahead : List ℕ) (below : ℕ) → Met kind places top ahead below → Begins (remains (drop top places)) kind
+met_viable kind places top ahead below m =
+    let some = some_kinds (ahead ++ drop below places) m.ends in
     (some.0, ((m.follows some.0).1 some.1, (m.is_kind, some.2)))
 
 -- one that is not met is not

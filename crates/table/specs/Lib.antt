@@ -1,7 +1,5 @@
 pub mod Cells
 pub mod Entry
 pub mod Stack
-pub mod Steps
-pub mod Comes
 pub mod Walk
 pub mod Level

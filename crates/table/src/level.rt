@@ -6,16 +6,12 @@ ghost use Rattle.parser.specs.Meaning.{Takes, absent};
 ghost use Rattle.table.specs.Stack.{Ends};
 ghost use Rattle.table.specs.Level.{remains, means};
 
-use crate::steps::lay;
-use crate::walk::meet;
+use crate::walk::{lay, meet};
 use grammar::is_nullable;
 use parser::Refused;
 
-// One place for the start symbol and three for each token, rounded up to whole chunks.
-const DEPTH: usize = 3088;
-
-// Stacks are copied in chunks of so many places, which the machine moves at once: none is copied by itself.
-const CHUNK: usize = 16;
+// One place for the start symbol and three for each token.
+const DEPTH: usize = 3073;
 
 // How many tokens are taken from a start.
 const REACH: u16 = 1024;
@@ -29,20 +25,19 @@ pub(crate) struct Level {
     places: [u8; DEPTH],
     top: usize,
     left: u16,
-    ghost depth: { length places ≡ 3088 },
-    ghost inside: { top ≤ 3088 },
+    ghost depth: { length places ≡ 3073 },
+    ghost inside: { top ≤ 3073 },
     ghost room: { 3 * left ≤ top },
     ghost ends: { Ends (rest top places) },
 }
 
 // Lays the start symbol alone, and answers where it stands.
 fn lay_start(places: &mut [u8]) -> usize
-    requires { length places.old ≡ 3088 }
-    ensures at { result ≡ 3087 }
+    requires { length places.old ≡ 3073 }
+    ensures at { result ≡ 3072 }
     ensures stack { rest result places.new ≡ start_symbol ∷ [] }
 {
-    places[DEPTH - 1] = START;
-    DEPTH - 1
+    lay(places, DEPTH, &[START])
 }
 
 impl Level {
@@ -69,14 +64,12 @@ impl Level {
         self.left = REACH;
     }
 
-    // The same stack and number left as the other has. Only the chunks of used places are copied.
+    // The same stack and number left as the other has. Only the used places are copied.
     pub(crate) fn copy(&mut self, other: &Level)
         ensures stack { rest self.new.top self.new.places ≡ rest other.now.top other.now.places }
         ensures left { self.new.left ≡ other.now.left }
     {
-        let from = other.top - other.top % CHUNK;
-        self.places[from..].copy_from_slice(&other.places[from..]);
-        self.top = other.top;
+        self.top = lay(&mut self.places, DEPTH, &other.places[other.top..]);
         self.left = other.left;
     }
 
@@ -110,11 +103,11 @@ impl Level {
     {
         match meet(&self.places, self.top, kind) {
             None => Err(Refused::NotViable),
-            Some(met) => {
+            Some(walk) => {
                 if self.left == 0 {
                     return Err(Refused::ReachSpent);
                 }
-                self.top = lay(&mut self.places, met.below, met.left);
+                self.top = lay(&mut self.places, walk.below(), walk.ahead());
                 self.left -= 1;
                 Ok(())
             }

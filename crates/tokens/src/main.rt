@@ -1,4 +1,7 @@
 // Prints the tokens of the sheet on standard input, or what was refused of it.
+
+#![tactic(auto)]
+
 use layout::Resolver;
 use reader::TooLong;
 use std::io;

@@ -1,5 +1,8 @@
 // Runs recorded sheets and calls over the table parser, and writes what came of them. It reads the files `sheets` and
 // `calls` of the folder that it is run in.
+
+#![tactic(auto)]
+
 mod calls;
 mod journal;
 mod record;

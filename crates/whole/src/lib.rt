@@ -1,4 +1,7 @@
 // A whole sheet: from its text to its tokens, or to all that was refused of it, over any parser.
+
+#![tactic(auto)]
+
 mod feeding;
 mod outcome;
 mod sheet_run;

@@ -1,5 +1,8 @@
 // The layout rules and the sheet grammar together, on eight small sheets: what a service answers to each call, and the
 // tokens that it writes. The contract is the statement.
+
+#![tactic(auto)]
+
 ghost use Rattle.std.specs.Prelude.{◌≡◌};
 ghost use Rattle.worked.specs.Examples.{Examples};
 

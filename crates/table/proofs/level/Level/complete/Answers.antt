@@ -10,7 +10,7 @@ pub loop-at-init : goal.loop-at-init
 loop-at-init c =
     let self = c.args.self.now in
     let long = self.depth in
-    (self.inside, omega arith, subst (λ l. Derives sheet l []) (sym (drop_all 3088 self.places (omega arith))) done)
+    (self.inside, omega arith, subst (λ l. Derives sheet l []) (sym (drop_all 3073 self.places (omega arith))) done)
 
 pub returns-then-not-is-nullable : goal.returns-then-not-is-nullable
 returns-then-not-is-nullable c =

@@ -26,7 +26,7 @@ impl ExpectedKinds {
 
 // Asks for each of the fifteen kinds whether it is viable; no other number is flagged.
 pub fn expected_kinds<P: Probing>(parser: &P) -> ExpectedKinds
-    ensures kinds { (kind : ℕ) → 1 ≤ kind → kind ≤ 15 → Decides (flagged result.flags kind) (Begins (remainder parser.now) kind) }
+    ensures kinds { (kind : ℕ) → 1 ≤ kind → kind ≤ 15 → Decides (flagged result.flags kind) (Begins (P.remainder parser.now) kind) }
     ensures others { (kind : ℕ) → (1 ≤ kind → kind ≤ 15 → ⊥) → flagged result.flags kind ≡ false }
 {
     let mut flags = [false; FLAGS];

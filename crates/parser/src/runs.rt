@@ -31,10 +31,10 @@ pub enum Answer {
 // begins a list of the remainder is taken, as far as the number left goes.
 pub fn take_all<P: Stepping>(parser: &mut P, kinds: &[u32]) -> usize
     ensures within { result ≤ length kinds.now }
-    ensures paid { result ≤ left parser.old }
-    ensures steps { Alike (meaning language reach P.Probing.remainder left saved parser.new) (after (front result kinds.now) (meaning language reach P.Probing.remainder left saved parser.old)) }
-    ensures stops { result < length kinds.now → (Begins (P.Probing.remainder parser.new) (slice_index kinds.now result) → ⊥) ⊎ (left parser.new ≡ 0) }
-    ensures prefix { BeginsWith (P.Probing.remainder parser.old) kinds.now → length kinds.now ≤ left parser.old → result ≡ length kinds.now }
+    ensures paid { result ≤ P.left parser.old }
+    ensures steps { Alike (meaning P.language P.reach P.Probing.remainder P.left P.saved parser.new) (after (front result kinds.now) (meaning P.language P.reach P.Probing.remainder P.left P.saved parser.old)) }
+    ensures stops { result < length kinds.now → (Begins (P.Probing.remainder parser.new) (slice_index kinds.now result) → ⊥) ⊎ (P.left parser.new ≡ 0) }
+    ensures prefix { BeginsWith (P.Probing.remainder parser.old) kinds.now → length kinds.now ≤ P.left parser.old → result ≡ length kinds.now }
 {
     for (i, kind) in kinds.iter().enumerate() {
         match parser.take(*kind) {
@@ -47,7 +47,7 @@ pub fn take_all<P: Stepping>(parser: &mut P, kinds: &[u32]) -> usize
 
 // Whether all of so many kinds were taken, and nothing more is wanted.
 fn finished<P: Probing>(parser: &P, count: usize, all: usize) -> bool
-    ensures { Decides result ((count ≡ all) × remainder parser.now []) }
+    ensures { Decides result ((count ≡ all) × P.remainder parser.now []) }
 {
     count == all && parser.complete()
 }
@@ -55,8 +55,8 @@ fn finished<P: Probing>(parser: &P, count: usize, all: usize) -> bool
 // Whether the list is a sentence of the parser's language that its reach allows. It begins with a start and
 // leaves the parser as a start does.
 pub fn accepts<P: Stepping>(parser: &mut P, kinds: &[u32]) -> bool
-    ensures decides { Decides result (WithinReach (meaning language reach P.Probing.remainder left saved parser.old) kinds.now) }
-    ensures fresh { Alike (meaning language reach P.Probing.remainder left saved parser.new) (started (meaning language reach P.Probing.remainder left saved parser.old)) }
+    ensures decides { Decides result (WithinReach (meaning P.language P.reach P.Probing.remainder P.left P.saved parser.old) kinds.now) }
+    ensures fresh { Alike (meaning P.language P.reach P.Probing.remainder P.left P.saved parser.new) (started (meaning P.language P.reach P.Probing.remainder P.left P.saved parser.old)) }
 {
     parser.start();
     let count = take_all(parser, kinds);
@@ -67,8 +67,8 @@ pub fn accepts<P: Stepping>(parser: &mut P, kinds: &[u32]) -> bool
 
 // Asks or does what the call says.
 pub fn perform<P: Stepping>(parser: &mut P, call: Call) -> Answer
-    ensures told { Answers (meaning language reach P.Probing.remainder left saved parser.old) call result }
-    ensures means { Alike (meaning language reach P.Probing.remainder left saved parser.new) (next call result (meaning language reach P.Probing.remainder left saved parser.old)) }
+    ensures told { Answers (meaning P.language P.reach P.Probing.remainder P.left P.saved parser.old) call result }
+    ensures means { Alike (meaning P.language P.reach P.Probing.remainder P.left P.saved parser.new) (next call result (meaning P.language P.reach P.Probing.remainder P.left P.saved parser.old)) }
 {
     match call {
         Call::Viable(kind) => Answer::Told(parser.viable(kind)),

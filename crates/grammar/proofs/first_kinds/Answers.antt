@@ -5,4 +5,4 @@ use Rattle.grammar.proofs.SheetSets.{begin_exact}
 use Rattle.grammar.proofs.first_kinds.Goals as goal
 
 pub returns : goal.returns
-returns c = λ kind. subst (λ x. Decides (among kind x) (IsNonterminal c.args.symbol × CanBegin sheet (c.args.symbol ∷ []) kind)) (sym c.kept-beginners.ensures) (begin_exact c.args.symbol kind)
+returns c = λ kind. subst (λ x. Decides (among kind x) (IsNonterminal c.args.symbol × CanBegin sheet (c.args.symbol ∷ []) kind)) (sym c.kept_beginners.ensures) (begin_exact c.args.symbol kind)

@@ -5,4 +5,4 @@ use Rattle.grammar.proofs.SheetSets.{follow_exact}
 use Rattle.grammar.proofs.follow_kinds.Goals as goal
 
 pub returns : goal.returns
-returns c = λ kind. subst (λ x. Decides (among kind x) (CanFollow sheet c.args.symbol kind)) (sym c.kept-followers.ensures) (follow_exact c.args.symbol kind)
+returns c = λ kind. subst (λ x. Decides (among kind x) (CanFollow sheet c.args.symbol kind)) (sym c.kept_followers.ensures) (follow_exact c.args.symbol kind)

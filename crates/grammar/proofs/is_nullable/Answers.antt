@@ -5,4 +5,4 @@ use Rattle.grammar.proofs.SheetSets.{null_exact}
 use Rattle.grammar.proofs.is_nullable.Goals as goal
 
 pub returns : goal.returns
-returns c = subst (λ b. Decides b (Nullable sheet (c.args.symbol ∷ []))) (sym c.kept-nullable.ensures) (null_exact c.args.symbol)
+returns c = subst (λ b. Decides b (Nullable sheet (c.args.symbol ∷ []))) (sym c.kept_nullable.ensures) (null_exact c.args.symbol)

@@ -10,11 +10,11 @@ means g = meaning g.P.Stepping.language g.P.Stepping.reach g.P.Probing.remainder
 pub returns : goal.returns
 returns g c =
     let kinds = c.args.kinds.now in
-    let r = c.take-all-count.result in
+    let r = c.take_all-count.result in
     let was = means g c.args.parser.now in
     let fresh = means g c.start.new.self in
-    let last = means g c.take-all-count.new.parser in
-    let run = c.take-all-count.ensures in
+    let last = means g c.take_all-count.new.parser in
+    let run = c.take_all-count.ensures in
     record {
       decides = accepted kinds r c.finished-answer.result was fresh last c.start.ensures run.paid run.steps run.prefix c.finished-answer.ensures;
       fresh = afresh (take r kinds) was fresh last (means g c.start-2.new.self) c.start.ensures run.steps c.start-2.ensures;

@@ -3,12 +3,17 @@ use Rattle.std.proofs.lemmas.List.{length-set}
 use Rattle.queue.proofs.Around.{length_around, put_around}
 use Rattle.queue.proofs.ring.Queue.fill.Goals as goal
 
-pub invariant-of-self : goal.invariant-of-self
-invariant-of-self g c =
+pub invariant_of-self : goal.invariant_of-self
+invariant_of-self g c =
     let q = c.args.self.now in
     let ring = set q.places.now c.args.at c.args.x in
     let same : length ring ≡ length q.places.now = length-set _ _ _ in
-    (omega arith, (omega arith, (omega arith, (length_around ring q.first (q.count + 1) (omega arith) (omega arith), tt))))
+    record {
+      bounded = omega arith;
+      inside = omega arith;
+      held = omega arith;
+      counted = length_around ring q.first (q.count + 1) (omega arith) (omega arith);
+    }
 
 pub returns : goal.returns
 returns g c =

@@ -16,10 +16,10 @@ pub returns-in-Some-clause-writes : goal.returns-in-Some-clause-writes
 returns-in-Some-clause-writes g c plain ok =
     has_written_of_eq g.W.Write.write_str_gives _ _ _ _
     (whole c.args.self.now _ _ _ (c.number-layer.ensures ∙ ap layer_number c.layer.ensures) c.number-number.ensures (ap context_text (sym c.in-Some.is)))
-    (writes_on_IsOk-append g.W.Write.write_str_gives _ _ _ _ _ _ _ (λ _. ap is_ok c.in-ok-write.was) c.write.ensures.writes c.write-in-Some.ensures.writes plain ok)
+    (writes_on_IsOk-append g.W.Write.write_str_gives _ _ _ _ _ _ _ (λ _. ap is_ok c.in_ok-write.was) c.write.ensures.writes c.write-in-Some.ensures.writes plain ok)
 
 pub returns-in-None-clause-writes : goal.returns-in-None-clause-writes
 returns-in-None-clause-writes g c plain ok =
     has_written_of_eq g.W.Write.write_str_gives _ _ _ _
     (whole c.args.self.now _ _ _ (c.number-layer.ensures ∙ ap layer_number c.layer.ensures) c.number-number.ensures (ap context_text (sym c.in-None.is)))
-    (writes_on_IsOk-append g.W.Write.write_str_gives _ _ _ _ _ _ _ (λ _. ap is_ok c.in-ok-write.was) c.write.ensures.writes c.write-in-None.ensures.writes plain ok)
+    (writes_on_IsOk-append g.W.Write.write_str_gives _ _ _ _ _ _ _ (λ _. ap is_ok c.in_ok-write.was) c.write.ensures.writes c.write-in-None.ensures.writes plain ok)

@@ -247,7 +247,7 @@ fn rule_at_end(innermost: Option<u32>) -> Rule
 
 // Whether the innermost block is implicit and has to close before a kind.
 fn must_close<P: Probing>(parser: &P, kind: u32, innermost: Option<u32>) -> bool
-    ensures { (ks : List ℕ) → innermost_of ks ≡ innermost → Decides result (MustClose (remainder parser.now) [] kind ks) }
+    ensures { (ks : List ℕ) → innermost_of ks ≡ innermost → Decides result (MustClose (P.remainder parser.now) [] kind ks) }
 {
     match innermost {
         None => false,
@@ -259,7 +259,7 @@ fn must_close<P: Probing>(parser: &P, kind: u32, innermost: Option<u32>) -> bool
 
 // The rule at a lexeme without a mark.
 fn rule_at_lexeme<P: Probing>(parser: &P, kind: u32, innermost: Option<u32>) -> Rule
-    ensures { (l : Typed) (ks : List ℕ) → kind ≡ l.kind → innermost_of ks ≡ innermost → Applies (remainder parser.now) [] none (lexeme l) ks result }
+    ensures { (l : Typed) (ks : List ℕ) → kind ≡ l.kind → innermost_of ks ≡ innermost → Applies (P.remainder parser.now) [] none (lexeme l) ks result }
 {
     if kind == Kind::CloseBrace.number() {
         rule_at_close(innermost)
@@ -274,9 +274,9 @@ fn rule_at_lexeme<P: Probing>(parser: &P, kind: u32, innermost: Option<u32>) -> 
 
 // The rule that applies at a mark before what comes, where the parser stands.
 pub fn rule_at<P: Probing>(parser: &P, mark: Mark, coming: &Coming, innermost: Option<u32>) -> Rule
-    ensures applies { (ks : List ℕ) → innermost_of ks ≡ innermost → Applies (remainder parser.now) [] mark coming.now ks result }
-    ensures only { (ks : List ℕ) (s : Rule) → innermost_of ks ≡ innermost → Applies (remainder parser.now) [] mark coming.now ks s → s ≡ result }
-    ensures single { SingleValued (remainder parser.now) }
+    ensures applies { (ks : List ℕ) → innermost_of ks ≡ innermost → Applies (P.remainder parser.now) [] mark coming.now ks result }
+    ensures only { (ks : List ℕ) (s : Rule) → innermost_of ks ≡ innermost → Applies (P.remainder parser.now) [] mark coming.now ks s → s ≡ result }
+    ensures single { SingleValued (P.remainder parser.now) }
 {
     match mark {
         Mark::Line => rule_at_line(coming.column(), innermost),

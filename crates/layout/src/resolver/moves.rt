@@ -18,7 +18,7 @@ use sheet::{Kind, Lexeme, Reason};
 
 // Whether the parser could end here, where the end comes.
 fn is_whole<P: Probing>(parser: &P, coming: &Coming) -> bool
-    ensures { Decides result (WholeAt (remainder parser.now) coming.now) }
+    ensures { Decides result (WholeAt (P.remainder parser.now) coming.now) }
 {
     match coming {
         Coming::Lexeme(_) => true,

@@ -38,7 +38,7 @@ impl<P> Resolver<P> {
 impl<P: Probing> Resolver<P> {
     // Which kinds the parser finds viable as it stands.
     pub fn expected_kinds(&self) -> ExpectedKinds
-        ensures kinds { (kind : ℕ) → 1 ≤ kind → kind ≤ 15 → Decides (flagged result.flags kind) (Begins (remainder self.now.parser) kind) }
+        ensures kinds { (kind : ℕ) → 1 ≤ kind → kind ≤ 15 → Decides (flagged result.flags kind) (Begins (P.remainder self.now.parser) kind) }
         ensures others { (kind : ℕ) → (1 ≤ kind → kind ≤ 15 → ⊥) → flagged result.flags kind ≡ false }
     {
         parser::expected_kinds(&self.parser)

@@ -8,11 +8,11 @@ use Rattle.layout.specs.Drafts.{Step, not_viable, reach_spent, reason_of, taken_
 use Rattle.layout.specs.Limits.{Room}
 use Rattle.layout.proofs.draft.take_token.Goals as goal
 
-pub returns-then-not-has-room : goal.returns-then-not-has-room
-returns-then-not-has-room g c = too_deep (λ room. true≢false (sym (c.has-room.ensures.1 room) ∙ c.if-not-has-room.true)) (alike_refl _)
+pub returns-then-not-has_room : goal.returns-then-not-has_room
+returns-then-not-has_room g c = too_deep (λ room. true≢false (sym (c.has_room.ensures.1 room) ∙ c.if-not-has_room.true)) (alike_refl _)
 
 pub returns-in-Ok : goal.returns-in-Ok
-returns-in-Ok g c = let told = c.in-Ok.ensures in taken_on (c.has-room.ensures.0 c.if-not-has-room.false) told.0 told.1 told.2
+returns-in-Ok g c = let told = c.in-Ok.ensures in taken_on (c.has_room.ensures.0 c.if-not-has_room.false) told.0 told.1 told.2
 
 -- a refusal of the parser's
 refused_step : (kind depth : ℕ) (m n : Meaning) (x : Refused) → Room kind depth → Takes kind m (Err x) n → Step kind depth m n (Err (reason_of x))
@@ -23,5 +23,5 @@ pub returns-in-Err : goal.returns-in-Err
 returns-in-Err g c =
     let m = meaning g.P.Stepping.language g.P.Stepping.reach g.P.Probing.remainder g.P.Stepping.left g.P.Stepping.saved c.args.parser.now in
     let n = meaning g.P.Stepping.language g.P.Stepping.reach g.P.Probing.remainder g.P.Stepping.left g.P.Stepping.saved c.take.new.self in
-    subst (λ x. Step c.args.kind c.args.blocks m n (Err x)) (sym c.reason-of.ensures)
-    (refused_step c.args.kind c.args.blocks m n c.in-Err.refused (c.has-room.ensures.0 c.if-not-has-room.false) c.in-Err.ensures)
+    subst (λ x. Step c.args.kind c.args.blocks m n (Err x)) (sym c.reason_of.ensures)
+    (refused_step c.args.kind c.args.blocks m n c.in-Err.refused (c.has_room.ensures.0 c.if-not-has_room.false) c.in-Err.ensures)

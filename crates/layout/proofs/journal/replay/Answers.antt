@@ -32,7 +32,7 @@ loop-call-preserved g c =
     subst (λ (cs : List Call). Replaying (g.P.Stepping.language r.parser) (g.P.Stepping.reach r.parser) c.args.first cs (vec_items k.answers) (vec_items k.tokens) (of g c.note.new.resolver.parser) (standing c.note.new.resolver))
     (sym (take_more calls i Begin (omega arith)))
     (replaying_more (g.P.Stepping.language r.parser) (g.P.Stepping.reach r.parser) c.args.first (take i calls) (vec_items j.answers) (vec_items k.answers) (vec_items j.tokens) (vec_items k.tokens)
-    (of g c.loop-call.resolver.parser) (of g c.note.new.resolver.parser) (standing c.loop-call.resolver) (standing c.note.new.resolver) (get_or calls i Begin) c.loop-call.invariant c.in-ok-note.ensures)
+    (of g c.loop-call.resolver.parser) (of g c.note.new.resolver.parser) (standing c.loop-call.resolver) (standing c.note.new.resolver) (get_or calls i Begin) c.loop-call.invariant c.in_ok-note.ensures)
 
 pub returns : goal.returns
 returns g c =

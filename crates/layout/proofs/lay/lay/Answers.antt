@@ -15,23 +15,23 @@ use Rattle.layout.proofs.Running.{at_some, inserted_contexts, inserting_few, mar
 use Rattle.layout.proofs.Stacks.{length_stack}
 use Rattle.layout.proofs.lay.lay.Given as given
 use Rattle.layout.proofs.lay.lay.Goals as goal
-use Rattle.layout.proofs.lay.lay.Goals.{After-insert-all, After-onward, After-rule-at-rule}
+use Rattle.layout.proofs.lay.lay.Goals.{After-insert_all, After-onward, After-rule_at-rule}
 
 -- the parser's meaning
 abbrev of : (g : given.Over) → g.row.P.Denot → Meaning
 of g p = meaning g.P.Stepping.language g.P.Stepping.reach g.P.Probing.remainder g.P.Stepping.left g.P.Stepping.saved p
 
 -- the rule of this turn applies
-applies : (g : given.Over) (c : After-rule-at-rule g) → Applies (of g c.loop-inserted.parser).remainder [] c.loop-inserted.mark c.args.coming.now (contexts_of c.args.contexts.now c.loop-inserted.draft) c.rule-at-rule.result
-applies g c = c.rule-at-rule.ensures.applies (contexts_of c.args.contexts.now c.loop-inserted.draft) (sym c.innermost.ensures)
+applies : (g : given.Over) (c : After-rule_at-rule g) → Applies (of g c.loop-inserted.parser).remainder [] c.loop-inserted.mark c.args.coming.now (contexts_of c.args.contexts.now c.loop-inserted.draft) c.rule_at-rule.result
+applies g c = c.rule_at-rule.ensures.applies (contexts_of c.args.contexts.now c.loop-inserted.draft) (sym c.innermost.ensures)
 
 -- its tokens are inserted, or not
-insertion : (g : given.Over) (c : After-insert-all g) (o : Result Draft Reason)
-    → Inserted c.inserting.result.now c.blocks-blocks.result c.loop-inserted.draft (of g c.loop-inserted.parser) (of g c.insert-all.new.parser) o
-    → Inserted (inserting c.rule-at-rule.result) (length (contexts_of c.args.contexts.now c.loop-inserted.draft)) c.loop-inserted.draft (of g c.loop-inserted.parser) (of g c.insert-all.new.parser) o
+insertion : (g : given.Over) (c : After-insert_all g) (o : Result Draft Reason)
+    → Inserted c.inserting.result.now c.blocks-blocks.result c.loop-inserted.draft (of g c.loop-inserted.parser) (of g c.insert_all.new.parser) o
+    → Inserted (inserting c.rule_at-rule.result) (length (contexts_of c.args.contexts.now c.loop-inserted.draft)) c.loop-inserted.draft (of g c.loop-inserted.parser) (of g c.insert_all.new.parser) o
 insertion g c o x =
-    subst (λ (n : ℕ). Inserted (inserting c.rule-at-rule.result) n c.loop-inserted.draft (of g c.loop-inserted.parser) (of g c.insert-all.new.parser) o) (c.blocks-blocks.ensures c.args.contexts.now)
-    (subst (λ (ts : List Insert). Inserted ts c.blocks-blocks.result c.loop-inserted.draft (of g c.loop-inserted.parser) (of g c.insert-all.new.parser) o) c.inserting.ensures x)
+    subst (λ (n : ℕ). Inserted (inserting c.rule_at-rule.result) n c.loop-inserted.draft (of g c.loop-inserted.parser) (of g c.insert_all.new.parser) o) (c.blocks-blocks.ensures c.args.contexts.now)
+    (subst (λ (ts : List Insert). Inserted ts c.blocks-blocks.result c.loop-inserted.draft (of g c.loop-inserted.parser) (of g c.insert_all.new.parser) o) c.inserting.ensures x)
 
 pub blocks-blocks-requires : goal.blocks-blocks-requires
 blocks-blocks-requires g c = omega (arith, c.loop-inserted.invariant.stands.shallow, length_stack c.args.contexts.now c.args.depth, c.requires.shallow)
@@ -42,111 +42,111 @@ innermost-requires g c = omega (arith, c.loop-inserted.invariant.stands.shallow,
 pub loop-inserted-init : goal.loop-inserted-init
 loop-inserted-init g c = running_new c.args.contexts.now c.args.depth c.args.mark c.args.coming.now (of g c.args.parser.now) c.new-draft.result c.new-draft.ensures.depth c.new-draft.ensures.opened c.new-draft.ensures.row c.requires.shallow c.requires.fitting
 
-pub insert-all-requires : goal.insert-all-requires
-insert-all-requires g c =
-    let rule = (goal.at.insert-all-requires g c).After-rule-at-rule in
+pub insert_all-requires : goal.insert_all-requires
+insert_all-requires g c =
+    let rule = (goal.at.insert_all-requires g c).After-rule_at-rule in
     record {
       order = subst (NextAll c.loop-inserted.draft) (sym c.inserting.ensures) (phase_next c.loop-inserted.draft (applies g rule) c.loop-inserted.invariant.phase);
-      few = omega (arith, c.loop-inserted.invariant.small, inserting_few c.rule-at-rule.result, ap length c.inserting.ensures);
+      few = omega (arith, c.loop-inserted.invariant.small, inserting_few c.rule_at-rule.result, ap length c.inserting.ensures);
     }
 
-pub returns-in-err-inserted : goal.returns-in-err-inserted
-returns-in-err-inserted g c =
-    let at = (goal.at.returns-in-err-inserted g c).After-insert-all in
-    let rule = (goal.at.returns-in-err-inserted g c).After-rule-at-rule in
-    let turned = err_from_is_err_and c.from-residual.result c.from-residual.ensures.1 in
-    let why = c.in-err-inserted.field-0.0 in
-    subst (Laying c.args.contexts.now (stack c.args.contexts.now c.args.depth) c.args.mark c.args.coming.now (of g c.args.parser.now) (of g c.insert-all.new.parser)) (sym (turned.1 ∙ ap Err turned.2))
-    (running_stops c.args.contexts.now (stack c.args.contexts.now c.args.depth) c.args.mark c.args.coming.now (of g c.args.parser.now) c.loop-inserted.draft c.loop-inserted.mark (of g c.loop-inserted.parser) c.rule-at-rule.result
-    c.loop-inserted.invariant (applies g rule) (of g c.insert-all.new.parser) why (insertion g at (Err why) c.in-err-inserted.ensures))
+pub returns-in_err-inserted : goal.returns-in_err-inserted
+returns-in_err-inserted g c =
+    let at = (goal.at.returns-in_err-inserted g c).After-insert_all in
+    let rule = (goal.at.returns-in_err-inserted g c).After-rule_at-rule in
+    let turned = err_from_is_err_and c.from_residual.result c.from_residual.ensures.1 in
+    let why = c.in_err-inserted.field-0.0 in
+    subst (Laying c.args.contexts.now (stack c.args.contexts.now c.args.depth) c.args.mark c.args.coming.now (of g c.args.parser.now) (of g c.insert_all.new.parser)) (sym (turned.1 ∙ ap Err turned.2))
+    (running_stops c.args.contexts.now (stack c.args.contexts.now c.args.depth) c.args.mark c.args.coming.now (of g c.args.parser.now) c.loop-inserted.draft c.loop-inserted.mark (of g c.loop-inserted.parser) c.rule_at-rule.result
+    c.loop-inserted.invariant (applies g rule) (of g c.insert_all.new.parser) why (insertion g at (Err why) c.in_err-inserted.ensures))
 
 -- how the rule goes on
-goes_on : (g : given.Over) (c : After-onward g) (o : Onward) → c.onward.result ≡ o → onward c.rule-at-rule.result ≡ o
+goes_on : (g : given.Over) (c : After-onward g) (o : Onward) → c.onward.result ≡ o → onward c.rule_at-rule.result ≡ o
 goes_on g c o e = sym c.onward.ensures ∙ e
 
 pub after-draft-requires : goal.after-draft-requires
 after-draft-requires g c =
     let so = c.loop-inserted.invariant in
-    let rule = (goal.at.after-draft-requires g c).After-rule-at-rule in
-    record { single = still_single c.loop-inserted.draft c.in-ok-inserted.inserted (applies g rule) so.phase so.brace c.in-ok-inserted.ensures }
+    let rule = (goal.at.after-draft-requires g c).After-rule_at-rule in
+    record { single = still_single c.loop-inserted.draft c.in_ok-inserted.inserted (applies g rule) so.phase so.brace c.in_ok-inserted.ensures }
 
 pub after-requires : goal.after-requires
 after-requires g c =
     let so = c.loop-inserted.invariant in
-    let rule = (goal.at.after-requires g c).After-rule-at-rule in
-    record { single = still_single c.loop-inserted.draft c.in-ok-inserted.inserted (applies g rule) so.phase so.brace c.in-ok-inserted.ensures }
+    let rule = (goal.at.after-requires g c).After-rule_at-rule in
+    record { single = still_single c.loop-inserted.draft c.in_ok-inserted.inserted (applies g rule) so.phase so.brace c.in_ok-inserted.ensures }
 
 pub loop-inserted-preserved : goal.loop-inserted-preserved
 loop-inserted-preserved g c =
     let cs = c.args.contexts.now in
-    let at = (goal.at.loop-inserted-preserved g c).After-insert-all in
-    let rule = (goal.at.loop-inserted-preserved g c).After-rule-at-rule in
-    let e = c.in-ok-inserted.inserted in
+    let at = (goal.at.loop-inserted-preserved g c).After-insert_all in
+    let rule = (goal.at.loop-inserted-preserved g c).After-rule_at-rule in
+    let e = c.in_ok-inserted.inserted in
     let told = c.after-draft.ensures in
-    running_more cs (stack cs c.args.depth) c.args.mark c.args.coming.now (of g c.args.parser.now) c.loop-inserted.draft c.loop-inserted.mark (of g c.loop-inserted.parser) c.rule-at-rule.result
-    c.loop-inserted.invariant (applies g rule) (of g c.insert-all.new.parser) e c.after-draft.result c.in-Mark.next (goes_on g (goal.at.loop-inserted-preserved g c).After-onward (at_mark c.in-Mark.next) c.in-Mark.is)
-    (insertion g at (Ok e) c.in-ok-inserted.ensures) told.tokens (told.contexts cs ∙ ap (λ n. leaves c.rule-at-rule.result n (contexts_of cs e)) c.column-in-loop-inserted.ensures) told.depth told.opened told.row
+    running_more cs (stack cs c.args.depth) c.args.mark c.args.coming.now (of g c.args.parser.now) c.loop-inserted.draft c.loop-inserted.mark (of g c.loop-inserted.parser) c.rule_at-rule.result
+    c.loop-inserted.invariant (applies g rule) (of g c.insert_all.new.parser) e c.after-draft.result c.in-Mark.next (goes_on g (goal.at.loop-inserted-preserved g c).After-onward (at_mark c.in-Mark.next) c.in-Mark.is)
+    (insertion g at (Ok e) c.in_ok-inserted.ensures) told.tokens (told.contexts cs ∙ ap (λ n. leaves c.rule_at-rule.result n (contexts_of cs e)) c.column-in-loop-inserted.ensures) told.depth told.opened told.row
 
 pub loop-inserted-smaller : goal.loop-inserted-smaller
 loop-inserted-smaller g c =
     let cs = c.args.contexts.now in
     let on = goes_on g (goal.at.loop-inserted-smaller g c).After-onward (at_mark c.in-Mark.next) c.in-Mark.is in
-    let left = c.after-draft.ensures.contexts cs ∙ ap (λ n. leaves c.rule-at-rule.result n (contexts_of cs c.in-ok-inserted.inserted)) c.column-in-loop-inserted.ensures
-    ∙ ap (leaves c.rule-at-rule.result _) (inserted_contexts cs c.loop-inserted.draft c.in-ok-inserted.inserted c.in-ok-inserted.ensures) in
-    omega (arith, rule_rank (applies g (goal.at.loop-inserted-smaller g c).After-rule-at-rule) (ap at_some on), ap length left, ap rank (ap mark_in on))
+    let left = c.after-draft.ensures.contexts cs ∙ ap (λ n. leaves c.rule_at-rule.result n (contexts_of cs c.in_ok-inserted.inserted)) c.column-in-loop-inserted.ensures
+    ∙ ap (leaves c.rule_at-rule.result _) (inserted_contexts cs c.loop-inserted.draft c.in_ok-inserted.inserted c.in_ok-inserted.ensures) in
+    omega (arith, rule_rank (applies g (goal.at.loop-inserted-smaller g c).After-rule_at-rule) (ap at_some on), ap length left, ap rank (ap mark_in on))
 
 pub returns-in-Lexeme : goal.returns-in-Lexeme
 returns-in-Lexeme g c =
     let cs = c.args.contexts.now in
     let ks = stack cs c.args.depth in
     let d = c.loop-inserted.draft in
-    let e = c.in-ok-inserted.inserted in
-    let r = c.rule-at-rule.result in
+    let e = c.in_ok-inserted.inserted in
+    let r = c.rule_at-rule.result in
     let before = of g c.args.parser.now in
     let now = of g c.loop-inserted.parser in
-    let mid = of g c.insert-all.new.parser in
+    let mid = of g c.insert_all.new.parser in
     let on = goes_on g (goal.at.returns-in-Lexeme g c).After-onward lexeme_written c.in-Lexeme.is in
-    let stood = same_stand cs ks c.args.mark c.args.coming.now before d c.loop-inserted.mark now r c.loop-inserted.invariant (applies g (goal.at.returns-in-Lexeme g c).After-rule-at-rule) mid e (ap at_some on)
-    (insertion g (goal.at.returns-in-Lexeme g c).After-insert-all (Ok e) c.in-ok-inserted.ensures) in
-    let next = of g c.take-token.new.parser in
+    let stood = same_stand cs ks c.args.mark c.args.coming.now before d c.loop-inserted.mark now r c.loop-inserted.invariant (applies g (goal.at.returns-in-Lexeme g c).After-rule_at-rule) mid e (ap at_some on)
+    (insertion g (goal.at.returns-in-Lexeme g c).After-insert_all (Ok e) c.in_ok-inserted.ensures) in
+    let next = of g c.take_token.new.parser in
     let told = c.after.ensures in
     written_at cs ks c.args.mark before e c.loop-inserted.mark mid r c.args.coming.now stood.0 stood.2 on next c.after.result
-    (subst (λ n. Step (kind c.args.coming.now) n mid next (Ok tt)) (c.blocks-blocks.ensures cs ∙ sym stood.1) (subst (λ k. Step k c.blocks-blocks.result mid next (Ok tt)) c.kind.ensures c.in-ok-take-token.ensures))
+    (subst (λ n. Step (kind c.args.coming.now) n mid next (Ok tt)) (c.blocks-blocks.ensures cs ∙ sym stood.1) (subst (λ k. Step k c.blocks-blocks.result mid next (Ok tt)) c.kind.ensures c.in_ok-take_token-in-Lexeme.ensures))
     told.tokens (told.contexts cs ∙ ap (λ n. leaves r n (contexts_of cs e)) c.column.ensures) told.depth
 
-pub returns-in-err-take-token : goal.returns-in-err-take-token
-returns-in-err-take-token g c =
+pub returns-in_err-take_token-in-Lexeme : goal.returns-in_err-take_token-in-Lexeme
+returns-in_err-take_token-in-Lexeme g c =
     let cs = c.args.contexts.now in
     let ks = stack cs c.args.depth in
     let d = c.loop-inserted.draft in
-    let e = c.in-ok-inserted.inserted in
-    let r = c.rule-at-rule.result in
+    let e = c.in_ok-inserted.inserted in
+    let r = c.rule_at-rule.result in
     let before = of g c.args.parser.now in
     let now = of g c.loop-inserted.parser in
-    let mid = of g c.insert-all.new.parser in
-    let on = goes_on g (goal.at.returns-in-err-take-token g c).After-onward lexeme_written c.in-Lexeme.is in
-    let stood = same_stand cs ks c.args.mark c.args.coming.now before d c.loop-inserted.mark now r c.loop-inserted.invariant (applies g (goal.at.returns-in-err-take-token g c).After-rule-at-rule) mid e (ap at_some on)
-    (insertion g (goal.at.returns-in-err-take-token g c).After-insert-all (Ok e) c.in-ok-inserted.ensures) in
-    let next = of g c.take-token.new.parser in
-    let why = c.in-err-take-token.field-0.0 in
-    let turned = err_from_is_err_and c.from-residual-in-err-take-token.result c.from-residual-in-err-take-token.ensures.1 in
+    let mid = of g c.insert_all.new.parser in
+    let on = goes_on g (goal.at.returns-in_err-take_token-in-Lexeme g c).After-onward lexeme_written c.in-Lexeme.is in
+    let stood = same_stand cs ks c.args.mark c.args.coming.now before d c.loop-inserted.mark now r c.loop-inserted.invariant (applies g (goal.at.returns-in_err-take_token-in-Lexeme g c).After-rule_at-rule) mid e (ap at_some on)
+    (insertion g (goal.at.returns-in_err-take_token-in-Lexeme g c).After-insert_all (Ok e) c.in_ok-inserted.ensures) in
+    let next = of g c.take_token.new.parser in
+    let why = c.in_err-take_token-in-Lexeme.field-0.0 in
+    let turned = err_from_is_err_and c.from_residual-in_err-take_token-in-Lexeme.result c.from_residual-in_err-take_token-in-Lexeme.ensures.1 in
     subst (Laying cs ks c.args.mark c.args.coming.now before next) (sym (turned.1 ∙ ap Err turned.2))
     (refused_at cs ks c.args.mark before e c.loop-inserted.mark mid r c.args.coming.now stood.0 stood.2 on next why
-    (subst (λ n. Step (kind c.args.coming.now) n mid next (Err why)) (c.blocks-blocks.ensures cs ∙ sym stood.1) (subst (λ k. Step k c.blocks-blocks.result mid next (Err why)) c.kind.ensures c.in-err-take-token.ensures)))
+    (subst (λ n. Step (kind c.args.coming.now) n mid next (Err why)) (c.blocks-blocks.ensures cs ∙ sym stood.1) (subst (λ k. Step k c.blocks-blocks.result mid next (Err why)) c.kind.ensures c.in_err-take_token-in-Lexeme.ensures)))
 
 pub returns-in-End : goal.returns-in-End
 returns-in-End g c =
     let cs = c.args.contexts.now in
     let ks = stack cs c.args.depth in
     let d = c.loop-inserted.draft in
-    let e = c.in-ok-inserted.inserted in
-    let r = c.rule-at-rule.result in
+    let e = c.in_ok-inserted.inserted in
+    let r = c.rule_at-rule.result in
     let before = of g c.args.parser.now in
     let now = of g c.loop-inserted.parser in
-    let mid = of g c.insert-all.new.parser in
+    let mid = of g c.insert_all.new.parser in
     let on = goes_on g (goal.at.returns-in-End g c).After-onward ended c.in-End.is in
-    let stood = same_stand cs ks c.args.mark c.args.coming.now before d c.loop-inserted.mark now r c.loop-inserted.invariant (applies g (goal.at.returns-in-End g c).After-rule-at-rule) mid e (ap at_some on)
-    (insertion g (goal.at.returns-in-End g c).After-insert-all (Ok e) c.in-ok-inserted.ensures) in
+    let stood = same_stand cs ks c.args.mark c.args.coming.now before d c.loop-inserted.mark now r c.loop-inserted.invariant (applies g (goal.at.returns-in-End g c).After-rule_at-rule) mid e (ap at_some on)
+    (insertion g (goal.at.returns-in-End g c).After-insert_all (Ok e) c.in_ok-inserted.ensures) in
     ended_at cs ks c.args.mark before e c.loop-inserted.mark mid r c.args.coming.now stood.0 stood.2 on
 
 pub returns-in-Undefined : goal.returns-in-Undefined
@@ -154,13 +154,13 @@ returns-in-Undefined g c =
     let cs = c.args.contexts.now in
     let ks = stack cs c.args.depth in
     let d = c.loop-inserted.draft in
-    let e = c.in-ok-inserted.inserted in
-    let r = c.rule-at-rule.result in
+    let e = c.in_ok-inserted.inserted in
+    let r = c.rule_at-rule.result in
     let before = of g c.args.parser.now in
     let now = of g c.loop-inserted.parser in
-    let mid = of g c.insert-all.new.parser in
+    let mid = of g c.insert_all.new.parser in
     let on = goes_on g (goal.at.returns-in-Undefined g c).After-onward undefined c.in-Undefined.is in
-    let stood = same_stand cs ks c.args.mark c.args.coming.now before d c.loop-inserted.mark now r c.loop-inserted.invariant (applies g (goal.at.returns-in-Undefined g c).After-rule-at-rule) mid e (ap at_some on)
-    (insertion g (goal.at.returns-in-Undefined g c).After-insert-all (Ok e) c.in-ok-inserted.ensures) in
+    let stood = same_stand cs ks c.args.mark c.args.coming.now before d c.loop-inserted.mark now r c.loop-inserted.invariant (applies g (goal.at.returns-in-Undefined g c).After-rule_at-rule) mid e (ap at_some on)
+    (insertion g (goal.at.returns-in-Undefined g c).After-insert_all (Ok e) c.in_ok-inserted.ensures) in
     subst (λ why. Laying cs ks c.args.mark c.args.coming.now before mid (Err why)) (sym c.undefined.ensures)
     (exit_undefined cs ks c.args.mark before e c.loop-inserted.mark mid r c.args.coming.now stood.0 stood.2 on)

@@ -7,22 +7,22 @@ use Rattle.layout.proofs.rule.rule_at.Goals as goal
 pub returns-in-Line : goal.returns-in-Line
 returns-in-Line g c =
     let a = alone_at_line (g.P.Probing.remainder c.args.parser.now) c.args.innermost _ _ c.args.coming.now c.in-Line.is
-    (c.rule-at-line.ensures ∙ ap (λ n. line_rule n c.args.innermost) c.column.ensures) in
+    (c.rule_at_line.ensures ∙ ap (λ n. line_rule n c.args.innermost) c.column.ensures) in
     record { applies = a.applies; only = a.only; single = λ ls p out out'. single_sheet (g.P.Probing.remainder c.args.parser.now) }
 
 pub returns-in-Block : goal.returns-in-Block
 returns-in-Block g c =
     let a = alone_at_block (g.P.Probing.remainder c.args.parser.now) c.args.innermost _ _ c.args.coming.now c.in-Block.is
-    (c.rule-at-block.ensures ∙ ap (λ n. block_rule n c.args.innermost) c.column-in-Block.ensures) in
+    (c.rule_at_block.ensures ∙ ap (λ n. block_rule n c.args.innermost) c.column-in-Block.ensures) in
     record { applies = a.applies; only = a.only; single = λ ls p out out'. single_sheet (g.P.Probing.remainder c.args.parser.now) }
 
 pub returns-in-End : goal.returns-in-End
 returns-in-End g c =
-    let a = alone_at_end (g.P.Probing.remainder c.args.parser.now) c.args.innermost _ _ _ c.in-End.field-0 c.in-None.is c.in-End.is c.rule-at-end.ensures in
+    let a = alone_at_end (g.P.Probing.remainder c.args.parser.now) c.args.innermost _ _ _ c.in-End.field-0 c.in-None.is c.in-End.is c.rule_at_end.ensures in
     record { applies = a.applies; only = a.only; single = λ ls p out out'. single_sheet (g.P.Probing.remainder c.args.parser.now) }
 
 pub returns-in-Lexeme : goal.returns-in-Lexeme
 returns-in-Lexeme g c =
     let a = alone_at_lexeme (g.P.Probing.remainder c.args.parser.now) c.args.innermost _ _ _ c.in-Lexeme.lexeme c.in-None.is c.in-Lexeme.is
-    (λ ks e. c.rule-at-lexeme.ensures c.in-Lexeme.lexeme ks refl e) in
+    (λ ks e. c.rule_at_lexeme.ensures c.in-Lexeme.lexeme ks refl e) in
     record { applies = a.applies; only = a.only; single = λ ls p out out'. single_sheet (g.P.Probing.remainder c.args.parser.now) }

@@ -5,10 +5,10 @@ use Rattle.reader.proofs.run.fraction_length.Goals as goal
 
 pub returns-in-0 : goal.returns-in-0
 returns-in-0 c =
-    let is = fraction_is c.args.bytes.now c.front-length.result (search rules) (search rules) c.front-length.ensures.value in
+    let is = fraction_is c.args.bytes.now c.front_length.result (search rules) (search rules) c.front_length.ensures.value in
     record { value = sym (is ∙ ap point_and c.in-0.is); within = omega arith }
 
-pub returns-in-default-front-length : goal.returns-in-default-front-length
-returns-in-default-front-length c =
-    let is = fraction_is c.args.bytes.now c.front-length.result (search rules) (search rules) c.front-length.ensures.value in
-    record { value = sym (is ∙ point_and_some c.front-length.result (search rules)); within = search rules }
+pub returns-in_default-front_length : goal.returns-in_default-front_length
+returns-in_default-front_length c =
+    let is = fraction_is c.args.bytes.now c.front_length.result (search rules) (search rules) c.front_length.ensures.value in
+    record { value = sym (is ∙ point_and_some c.front_length.result (search rules)); within = search rules }

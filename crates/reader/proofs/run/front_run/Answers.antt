@@ -3,5 +3,5 @@ use Rattle.reader.proofs.run.front_run.Goals as goal
 
 pub returns-in-Letter : goal.returns-in-Letter
 returns-in-Letter c =
-    let long = c.front-length-length.ensures in
-    record { value = name_is _ _ _ c.requires.some c.in-Letter.ensures long.value c.word-kind-kind.ensures; within = long.within }
+    let long = c.front_length-length.ensures in
+    record { value = name_is _ _ _ c.requires.some c.in-Letter.ensures long.value c.word_kind-kind.ensures; within = long.within }

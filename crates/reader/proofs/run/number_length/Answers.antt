@@ -4,6 +4,6 @@ use Rattle.reader.proofs.run.number_length.Goals as goal
 
 pub returns : goal.returns
 returns c =
-    let whole = c.front-length-whole.ensures in
-    let part = c.fraction-length.ensures in
+    let whole = c.front_length-whole.ensures in
+    let part = c.fraction_length.ensures in
     record { value = number_is _ _ _ whole.value part.value; within = omega (arith, whole.within, simp (length-take, length-drop) at part.within) }

@@ -42,7 +42,7 @@ put-requires c =
     let room = walk_room c.args.kind c.args.places.now c.args.top (ahead was) was.below c.in-Some.symbol (ahead now) now.below c.loop-symbol.invariant c.in-Some.ensures c.entry-production.result (omega arith, omega arith) c.if-symbol-lt-NONTERMINAL.false c.entry-production.ensures c.if-production-eq0.false in
     let long : length now.ahead ≡ 5 = now.five in
     let within : now.first ≤ 5 = now.inside in
-    let right = ap length c.right-side.ensures in
+    let right = ap length c.right_side.ensures in
     omega (arith, length-append (nth sheet c.entry-production.result).right (ahead now), length-drop now.first now.ahead)
 
 pub loop-symbol-smaller : goal.loop-symbol-smaller
@@ -50,7 +50,7 @@ loop-symbol-smaller c =
     let was = c.loop-symbol.walk in
     let now = c.next.new.self in
     let then = c.put.new.self in
-    let is : ahead then ≡ (nth sheet c.entry-production.result).right ++ ahead now = c.put.ensures.ahead ∙ ap (λ x. x ++ ahead now) c.right-side.ensures in
+    let is : ahead then ≡ (nth sheet c.entry-production.result).right ++ ahead now = c.put.ensures.ahead ∙ ap (λ x. x ++ ahead now) c.right_side.ensures in
     let less = walk_falls c.args.kind c.args.places.now c.args.top (ahead was) was.below c.in-Some.symbol (ahead now) now.below c.loop-symbol.invariant c.in-Some.ensures c.entry-production.result (omega arith, omega arith) c.if-symbol-lt-NONTERMINAL.false c.entry-production.ensures c.if-production-eq0.false (ahead then) is in
     subst (λ b. steps (ahead then ++ drop b c.args.places.now) < steps (ahead was ++ drop was.below c.args.places.now)) (sym c.put.ensures.below) less
 
@@ -59,11 +59,11 @@ loop-symbol-preserved c =
     let was = c.loop-symbol.walk in
     let now = c.next.new.self in
     let then = c.put.new.self in
-    let is : ahead then ≡ (nth sheet c.entry-production.result).right ++ ahead now = c.put.ensures.ahead ∙ ap (λ x. x ++ ahead now) c.right-side.ensures in
+    let is : ahead then ≡ (nth sheet c.entry-production.result).right ++ ahead now = c.put.ensures.ahead ∙ ap (λ x. x ++ ahead now) c.right_side.ensures in
     let on = walk_goes_on c.args.kind c.args.places.now c.args.top (ahead was) was.below c.in-Some.symbol (ahead now) now.below c.loop-symbol.invariant c.in-Some.ensures c.entry-production.result (omega arith, omega arith) c.if-symbol-lt-NONTERMINAL.false c.entry-production.ensures c.if-production-eq0.false (ahead then) is in
     subst (Walking c.args.kind c.args.places.now c.args.top (ahead then)) (sym c.put.ensures.below) on
 
 pub returns : goal.returns
 returns c =
     let was = c.loop-symbol.walk in
-    λ _. walk_out c.args.kind c.args.places.now c.args.top (ahead was) was.below c.loop-symbol.invariant c.in-default.ensures
+    λ _. walk_out c.args.kind c.args.places.now c.args.top (ahead was) was.below c.loop-symbol.invariant c.in_default.ensures

@@ -6,7 +6,7 @@ use Rattle.layout.proofs.draft.Draft.closed.Goals as goal
 pub returns-else-self-eq0 : goal.returns-else-self-eq0
 returns-else-self-eq0 c =
     record {
-      value = λ cs. sym (ap outer (opened_none c.args.self.opened _ (sym c.if-is-some.ensures) ∙ stack_more cs c.args.self.depth c.if-self-eq0.false));
+      value = λ cs. sym (ap outer (opened_none c.args.self.opened _ (sym c.if-is_some.ensures) ∙ stack_more cs c.args.self.depth c.if-self-eq0.false));
       depth = omega arith;
       tokens = refl;
       opened = refl;

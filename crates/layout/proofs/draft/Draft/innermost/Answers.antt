@@ -5,4 +5,4 @@ use Rattle.layout.proofs.draft.Draft.innermost.Goals as goal
 
 pub returns-else-self-eq0 : goal.returns-else-self-eq0
 returns-else-self-eq0 c =
-    sym (ap innermost_of (opened_none c.args.self.opened _ (sym c.if-is-some.ensures) ∙ stack_more c.args.contexts.now c.args.self.depth c.if-self-eq0.false))
+    sym (ap innermost_of (opened_none c.args.self.opened _ (sym c.if-is_some.ensures) ∙ stack_more c.args.contexts.now c.args.self.depth c.if-self-eq0.false))

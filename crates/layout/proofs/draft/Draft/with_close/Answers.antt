@@ -21,8 +21,8 @@ returns-then-self c = record { tokens = behind (if_set c.args.self.brace 3) (rep
 pub returns-else-self : goal.returns-else-self
 returns-else-self c = record { tokens = simp c.if-self.false (one_row (if_set c.args.self.brace 3) c.args.self.closes c.args.self.closes_after); contexts = (refl, refl); row = λ e. (e, refl) }
 
-pub overflow-add-result : goal.overflow-add-result
-overflow-add-result c = omega (arith, closes_few c.args.self, c.requires.few)
+pub overflow_add-result : goal.overflow_add-result
+overflow_add-result c = omega (arith, closes_few c.args.self, c.requires.few)
 
-pub overflow-add-result-else-self : goal.overflow-add-result-else-self
-overflow-add-result-else-self c = omega (arith, closes_few c.args.self, c.requires.few)
+pub overflow_add-result-else-self : goal.overflow_add-result-else-self
+overflow_add-result-else-self c = omega (arith, closes_few c.args.self, c.requires.few)

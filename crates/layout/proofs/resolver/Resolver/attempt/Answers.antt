@@ -12,25 +12,25 @@ use Rattle.layout.proofs.resolver.Resolver.attempt.Goals as goal
 abbrev of : (g : given.Over) → g.row.P.Denot → Meaning
 of g p = meaning g.P.Stepping.language g.P.Stepping.reach g.P.Probing.remainder g.P.Stepping.left g.P.Stepping.saved p
 
-pub returns-in-err-draft : goal.returns-in-err-draft
-returns-in-err-draft g c =
+pub returns-in_err-draft : goal.returns-in_err-draft
+returns-in_err-draft g c =
     let r = c.args.self.now in
     let ks = stack r.contexts r.depth in
     let before = of g r.parser in
     let now = of g c.lay.new.parser in
-    let turned = err_from_is_err_and c.from-residual.result c.from-residual.ensures.1 in
+    let turned = err_from_is_err_and c.from_residual.result c.from_residual.ensures.1 in
     record {
       told = subst (Attempts r.contexts ks c.args.mark c.args.coming.now c.args.free before now) (sym (turned.1 ∙ ap Err turned.2))
-          (attempt_stopped r.contexts ks c.args.mark c.args.coming.now c.args.free before now c.in-err-draft.field-0.0 c.in-err-draft.ensures);
+          (attempt_stopped r.contexts ks c.args.mark c.args.coming.now c.args.free before now c.in_err-draft.field-0.0 c.in_err-draft.ensures);
       beside = record { contexts = refl; depth = refl; last = refl; sheet = refl; next = refl };
     }
 
-pub returns-then-not-is-whole : goal.returns-then-not-is-whole
-returns-then-not-is-whole g c =
+pub returns-then-not-is_whole : goal.returns-then-not-is_whole
+returns-then-not-is_whole g c =
     let r = c.args.self.now in
     record {
-      told = attempt_not_whole r.contexts (stack r.contexts r.depth) c.args.mark c.args.coming.now c.args.free (of g r.parser) (of g c.lay.new.parser) c.in-ok-draft.draft
-          c.in-ok-draft.ensures (λ w. false≢true (sym c.if-not-is-whole.true ∙ c.is-whole.ensures.1 w));
+      told = attempt_not_whole r.contexts (stack r.contexts r.depth) c.args.mark c.args.coming.now c.args.free (of g r.parser) (of g c.lay.new.parser) c.in_ok-draft.draft
+          c.in_ok-draft.ensures (λ w. false≢true (sym c.if-not-is_whole.true ∙ c.is_whole.ensures.1 w));
       beside = record { contexts = refl; depth = refl; last = refl; sheet = refl; next = refl };
     }
 
@@ -38,8 +38,8 @@ pub returns-then-free-count : goal.returns-then-free-count
 returns-then-free-count g c =
     let r = c.args.self.now in
     record {
-      told = attempt_no_room r.contexts (stack r.contexts r.depth) c.args.mark c.args.coming.now c.args.free (of g r.parser) (of g c.lay.new.parser) c.in-ok-draft.draft
-          c.in-ok-draft.ensures (c.is-whole.ensures.0 c.if-not-is-whole.false) (omega (arith, c.count.ensures, c.if-free-count.true));
+      told = attempt_no_room r.contexts (stack r.contexts r.depth) c.args.mark c.args.coming.now c.args.free (of g r.parser) (of g c.lay.new.parser) c.in_ok-draft.draft
+          c.in_ok-draft.ensures (c.is_whole.ensures.0 c.if-not-is_whole.false) (omega (arith, c.count.ensures, c.if-free-count.true));
       beside = record { contexts = refl; depth = refl; last = refl; sheet = refl; next = refl };
     }
 
@@ -47,7 +47,7 @@ pub returns : goal.returns
 returns g c =
     let r = c.args.self.now in
     record {
-      told = attempt_fits r.contexts (stack r.contexts r.depth) c.args.mark c.args.coming.now c.args.free (of g r.parser) (of g c.lay.new.parser) c.in-ok-draft.draft
-          c.in-ok-draft.ensures (c.is-whole.ensures.0 c.if-not-is-whole.false) (omega (arith, c.count.ensures, c.if-free-count.false));
+      told = attempt_fits r.contexts (stack r.contexts r.depth) c.args.mark c.args.coming.now c.args.free (of g r.parser) (of g c.lay.new.parser) c.in_ok-draft.draft
+          c.in_ok-draft.ensures (c.is_whole.ensures.0 c.if-not-is_whole.false) (omega (arith, c.count.ensures, c.if-free-count.false));
       beside = record { contexts = refl; depth = refl; last = refl; sheet = refl; next = refl };
     }

@@ -9,18 +9,18 @@ use Rattle.layout.proofs.resolver.Resolver.begin.Goals as goal
 abbrev of : (g : given.Over) → g.row.P.Denot → Meaning
 of g p = meaning g.P.Stepping.language g.P.Stepping.reach g.P.Probing.remainder g.P.Stepping.left g.P.Stepping.saved p
 
-pub returns-then-is-some : goal.returns-then-is-some
-returns-then-is-some g c =
+pub returns-then-is_some : goal.returns-then-is_some
+returns-then-is_some g c =
     let r = c.args.self.now in
-    begins_open (of g r.parser) r c.fault.result (sym c.is-some.ensures ∙ c.if-is-some.true) c.fault.ensures
+    begins_open (of g r.parser) r c.fault.result (sym c.is_some.ensures ∙ c.if-is_some.true) c.fault.ensures
 
-pub returns-in-default : goal.returns-in-default
-returns-in-default g c =
+pub returns-in_default : goal.returns-in_default
+returns-in_default g c =
     let r = c.args.self.now in
-    begins_spent (of g r.parser) r c.fault-in-default.result (sym c.is-some.ensures ∙ c.if-is-some.false) c.in-default.is c.fault-in-default.ensures
+    begins_spent (of g r.parser) r c.fault-in_default.result (sym c.is_some.ensures ∙ c.if-is_some.false) c.in_default.is c.fault-in_default.ensures
 
 pub returns : goal.returns
 returns g c =
     let r = c.args.self.now in
-    begins_new (of g r.parser) r (of g c.start.new.self) _ c.in-Some.number (sym c.is-some.ensures ∙ c.if-is-some.false) c.in-Some.is c.following-self.ensures.range
+    begins_new (of g r.parser) r (of g c.start.new.self) _ c.in-Some.number (sym c.is_some.ensures ∙ c.if-is_some.false) c.in-Some.is c.following-self.ensures.range
     (ap (λ n. record { sheet = Some c.in-Some.number; next = n; contexts = []; before = Nothing; written = [] }) c.following-self.ensures.value) c.start.ensures

@@ -20,25 +20,25 @@ of g p = meaning g.P.Stepping.language g.P.Stepping.reach g.P.Probing.remainder 
 -- what was taken, at the mark that the lexeme has
 moved : (g : given.Over) (c : In-Some g) (x : Result (Unit {0}) Reason) → c.in-Some.taken ≡ x
     → Moves c.args.self.now.contexts (stack c.args.self.now.contexts c.args.self.now.depth) (mark_of c.args.self.now.before c.args.lexeme.now) (lexeme c.args.lexeme.now) c.args.free
-    (of g c.args.self.now.parser) (of g c.take-directly.new.self.parser) (alone c.args.self.now.depth x)
+    (of g c.args.self.now.parser) (of g c.take_directly.new.self.parser) (alone c.args.self.now.depth x)
 moved g c x is =
     let r = c.args.self.now in
-    let q = c.take-directly.new.self in
-    let go = c.is-direct.ensures c.if-not-is-direct.false in
+    let q = c.take_directly.new.self in
+    let go = c.is_direct.ensures c.if-not-is_direct.false in
     subst (λ (y : Result (Unit {0}) Reason). Moves r.contexts (stack r.contexts r.depth) (mark_of r.before c.args.lexeme.now) (lexeme c.args.lexeme.now) c.args.free (of g r.parser) (of g q.parser) (alone r.depth y)) is
     (subst (λ (k : Mark). Moves r.contexts (stack r.contexts r.depth) k (lexeme c.args.lexeme.now) c.args.free (of g r.parser) (of g q.parser) (alone r.depth c.in-Some.taken)) (sym go.3) (c.in-Some.ensures.told c.args.free go.0))
 
 pub returns-in-None : goal.returns-in-None
 returns-in-None g c =
-    let go = c.is-direct.ensures c.if-not-is-direct.false in
-    (c.in-None.ensures.told c.args.free go.0, beside_standing c.args.self.now c.take-directly.new.self c.take-directly.ensures.beside)
+    let go = c.is_direct.ensures c.if-not-is_direct.false in
+    (c.in-None.ensures.told c.args.free go.0, beside_standing c.args.self.now c.take_directly.new.self c.take_directly.ensures.beside)
 
 pub returns-in-Ok : goal.returns-in-Ok
 returns-in-Ok g c =
     let r = c.args.self.now in
-    let q = c.take-directly.new.self in
-    let go = c.is-direct.ensures c.if-not-is-direct.false in
-    let beside = c.take-directly.ensures.beside in
+    let q = c.take_directly.new.self in
+    let go = c.is_direct.ensures c.if-not-is_direct.false in
+    let beside = c.take_directly.ensures.beside in
     fed_accepted r (of g r.parser) (of g q.parser) c.args.number c.args.free c.args.lexeme.now _ (empty r.depth) go.1 go.2
     (λ i. record { sheet = beside.sheet i; next = next_of (beside.next i); contexts = stack (beside.contexts i) (beside.depth i); before = c.after-self.ensures i; written = [] })
     (moved g (goal.at.returns-in-Ok g c).In-Some (Ok c.in-Ok.field-0) c.in-Ok.is)
@@ -46,7 +46,7 @@ returns-in-Ok g c =
 pub returns-in-Err : goal.returns-in-Err
 returns-in-Err g c =
     let r = c.args.self.now in
-    let q = c.take-directly.new.self in
-    let go = c.is-direct.ensures c.if-not-is-direct.false in
-    fed_refused r (of g r.parser) (of g q.parser) c.args.number c.args.free c.args.lexeme.now (standing q) c.in-Err.reason go.1 go.2 (beside_standing r q c.take-directly.ensures.beside)
+    let q = c.take_directly.new.self in
+    let go = c.is_direct.ensures c.if-not-is_direct.false in
+    fed_refused r (of g r.parser) (of g q.parser) c.args.number c.args.free c.args.lexeme.now (standing q) c.in-Err.reason go.1 go.2 (beside_standing r q c.take_directly.ensures.beside)
     (moved g (goal.at.returns-in-Err g c).In-Some (Err c.in-Err.reason) c.in-Err.is)

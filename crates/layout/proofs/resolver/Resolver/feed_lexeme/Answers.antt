@@ -17,38 +17,38 @@ use Rattle.layout.proofs.resolver.Resolver.feed_lexeme.Goals as goal
 abbrev of : (g : given.Over) → g.row.P.Denot → Meaning
 of g p = meaning g.P.Stepping.language g.P.Stepping.reach g.P.Probing.remainder g.P.Stepping.left g.P.Stepping.saved p
 
-pub returns-then-not-is-open : goal.returns-then-not-is-open
-returns-then-not-is-open g c =
+pub returns-then-not-is_open : goal.returns-then-not-is_open
+returns-then-not-is_open g c =
     let r = c.args.self.now in
-    fed_wrong (of g r.parser) (standing r) c.args.number c.args.free c.args.lexeme (λ e. false≢true (sym c.if-not-is-open.true ∙ c.is-open.ensures.1 e))
+    fed_wrong (of g r.parser) (standing r) c.args.number c.args.free c.args.lexeme (λ e. false≢true (sym c.if-not-is_open.true ∙ c.is_open.ensures.1 e))
 
-pub returns-then-not-is-good : goal.returns-then-not-is-good
-returns-then-not-is-good g c =
+pub returns-then-not-is_good : goal.returns-then-not-is_good
+returns-then-not-is_good g c =
     let r = c.args.self.now in
-    fed_bad (of g r.parser) (standing r) c.args.number c.args.free c.args.lexeme (c.is-open.ensures.0 c.if-not-is-open.false) (λ b. false≢true (sym c.if-not-is-good.true ∙ c.is-good.ensures.1 b))
+    fed_bad (of g r.parser) (standing r) c.args.number c.args.free c.args.lexeme (c.is_open.ensures.0 c.if-not-is_open.false) (λ b. false≢true (sym c.if-not-is_good.true ∙ c.is_good.ensures.1 b))
 
-pub returns-in-err-draft : goal.returns-in-err-draft
-returns-in-err-draft g c =
+pub returns-in_err-draft : goal.returns-in_err-draft
+returns-in_err-draft g c =
     let r = c.args.self.now in
     let q = c.advance.new.self in
-    let turned = err_from_is_err_and c.from-residual.result c.from-residual.ensures.1 in
+    let turned = err_from_is_err_and c.from_residual.result c.from_residual.ensures.1 in
     subst (Fed (of g r.parser) (standing r) c.args.number c.args.lexeme c.args.free (of g q.parser) (standing q)) (sym (turned.1 ∙ ap Err turned.2))
-    (fed_refused r (of g r.parser) (of g q.parser) c.args.number c.args.free c.args.lexeme (standing q) c.in-err-draft.field-0.0 (c.is-open.ensures.0 c.if-not-is-open.false) (c.is-good.ensures.0 c.if-not-is-good.false)
+    (fed_refused r (of g r.parser) (of g q.parser) c.args.number c.args.free c.args.lexeme (standing q) c.in_err-draft.field-0.0 (c.is_open.ensures.0 c.if-not-is_open.false) (c.is_good.ensures.0 c.if-not-is_good.false)
     (beside_standing r q c.advance.ensures.beside)
-    (subst (λ (x : Mark). Moves r.contexts (stack r.contexts r.depth) x (lexeme c.args.lexeme) c.args.free (of g r.parser) (of g q.parser) (Err c.in-err-draft.field-0.0)) c.mark-of-mark.ensures.value c.in-err-draft.ensures.told))
+    (subst (λ (x : Mark). Moves r.contexts (stack r.contexts r.depth) x (lexeme c.args.lexeme) c.args.free (of g r.parser) (of g q.parser) (Err c.in_err-draft.field-0.0)) c.mark_of-mark.ensures.value c.in_err-draft.ensures.told))
 
 pub settle-requires : goal.settle-requires
 settle-requires g c =
     let r = c.args.self.now in
     let q = c.advance.new.self in
-    let d = c.in-ok-draft.draft in
+    let d = c.in_ok-draft.draft in
     let beside = c.advance.ensures.beside in
-    let sound = moves_sound r c.mark-of-mark.result (lexeme c.args.lexeme) c.args.free (of g r.parser) (of g q.parser) d c.in-ok-draft.ensures.told in
+    let sound = moves_sound r c.mark_of-mark.result (lexeme c.args.lexeme) c.args.free (of g r.parser) (of g q.parser) d c.in_ok-draft.ensures.told in
     record {
       within = omega (arith, sound.1, beside.depth);
       room = omega (arith, sound.0.few, ap (λ cs. length (contexts_of cs d)) beside.contexts);
       rising = ap (λ cs. rises (contexts_of cs d)) beside.contexts ∙ sound.0.rising;
-      sheet = ap is_some (beside.sheet ∙ c.is-open.ensures.0 c.if-not-is-open.false);
+      sheet = ap is_some (beside.sheet ∙ c.is_open.ensures.0 c.if-not-is_open.false);
     }
 
 pub returns : goal.returns
@@ -56,10 +56,10 @@ returns g c =
     let r = c.args.self.now in
     let q = c.advance.new.self in
     let z = c.settle.new.self in
-    let d = c.in-ok-draft.draft in
+    let d = c.in_ok-draft.draft in
     let beside = c.advance.ensures.beside in
     let around = c.settle.ensures.around in
-    fed_accepted r (of g r.parser) (of g z.parser) c.args.number c.args.free c.args.lexeme _ d (c.is-open.ensures.0 c.if-not-is-open.false) (c.is-good.ensures.0 c.if-not-is-good.false)
+    fed_accepted r (of g r.parser) (of g z.parser) c.args.number c.args.free c.args.lexeme _ d (c.is_open.ensures.0 c.if-not-is_open.false) (c.is_good.ensures.0 c.if-not-is_good.false)
     (λ i. record {
       sheet = (around.sheet ∙ beside.sheet) i;
       next = next_of ((around.next ∙ beside.next) i);
@@ -68,4 +68,4 @@ returns g c =
       written = [];
     })
     (subst (λ p. Moves r.contexts (stack r.contexts r.depth) (mark_of r.before c.args.lexeme) (lexeme c.args.lexeme) c.args.free (of g r.parser) (of g p) (Ok d)) (sym around.parser)
-    (subst (λ (x : Mark). Moves r.contexts (stack r.contexts r.depth) x (lexeme c.args.lexeme) c.args.free (of g r.parser) (of g q.parser) (Ok d)) c.mark-of-mark.ensures.value c.in-ok-draft.ensures.told))
+    (subst (λ (x : Mark). Moves r.contexts (stack r.contexts r.depth) x (lexeme c.args.lexeme) c.args.free (of g r.parser) (of g q.parser) (Ok d)) c.mark_of-mark.ensures.value c.in_ok-draft.ensures.told))

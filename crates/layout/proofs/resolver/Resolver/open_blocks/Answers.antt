@@ -4,8 +4,8 @@ use Rattle.layout.proofs.Stacks.{idle_none, implicit_few, implicit_none, implici
 use Rattle.layout.proofs.resolver.Resolver.open_blocks.Goals as goal
 use Rattle.layout.proofs.resolver.Resolver.open_blocks.Goals.{then-self-i-gt0, else-self-i-gt0}
 
-pub overflow-add-implicit : goal.overflow-add-implicit
-overflow-add-implicit g c =
+pub overflow_add-implicit : goal.overflow_add-implicit
+overflow_add-implicit g c =
     let r = c.args.self.now in
     omega (arith, c.loop-i.invariant, implicit_few (stack r.contexts c.loop-i.i), length_stack r.contexts c.loop-i.i, r.shallow)
 

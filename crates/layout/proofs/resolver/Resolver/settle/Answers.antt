@@ -20,16 +20,16 @@ pushed cs d k long e h = stack_push cs d.depth k (omega (arith, place cs d k e h
 pub bounds-self-draft : goal.bounds-self-draft
 bounds-self-draft g c = place c.args.self.now.contexts c.args.draft c.in-Some.context c.in-Some.is c.requires.room
 
-pub invariant-of-self : goal.invariant-of-self
-invariant-of-self g c =
+pub invariant_of-self : goal.invariant_of-self
+invariant_of-self g c =
     let r = c.args.self.now in
-    let d = c.args.draft in (
-      length-set r.contexts d.depth c.in-Some.context ∙ r.places,
-      (
-        omega (arith, place r.contexts d c.in-Some.context c.in-Some.is c.requires.room),
-        (ap rises (pushed r.contexts d c.in-Some.context r.places c.in-Some.is c.requires.room) ∙ c.requires.rising, (idle_open r.sheet (d.depth + 1) c.requires.sheet, tt)),
-      ),
-    )
+    let d = c.args.draft in
+    record {
+      places = length-set r.contexts d.depth c.in-Some.context ∙ r.places;
+      shallow = omega (arith, place r.contexts d c.in-Some.context c.in-Some.is c.requires.room);
+      rising = ap rises (pushed r.contexts d c.in-Some.context r.places c.in-Some.is c.requires.room) ∙ c.requires.rising;
+      bare = idle_open r.sheet (d.depth + 1) c.requires.sheet;
+    }
 
 pub returns-in-Some : goal.returns-in-Some
 returns-in-Some g c =

@@ -29,18 +29,18 @@ returns-in-ReachSpent g c =
       beside = record { contexts = refl; depth = refl; last = refl; sheet = refl; next = refl };
     }
 
-pub returns-then-may-close : goal.returns-then-may-close
-returns-then-may-close g c =
+pub returns-then-may_close : goal.returns-then-may_close
+returns-then-may_close g c =
     let r = c.args.self.now in
     let told = subst (λ (x : Refused). Takes c.args.lexeme.now.kind (of g r.parser) (Err x) (of g c.take.new.self)) c.in-NotViable.is c.in-Err.ensures in
     record { told = λ free some. took_same (of g r.parser) (of g c.take.new.self) told.1; beside = record { contexts = refl; depth = refl; last = refl; sheet = refl; next = refl } }
 
-pub returns-else-may-close : goal.returns-else-may-close
-returns-else-may-close g c =
+pub returns-else-may_close : goal.returns-else-may_close
+returns-else-may_close g c =
     let r = c.args.self.now in
     let told = subst (λ (x : Refused). Takes c.args.lexeme.now.kind (of g r.parser) (Err x) (of g c.take.new.self)) c.in-NotViable.is c.in-Err.ensures in
     record {
       told = λ free some. direct_unviable r.contexts r.depth c.args.lexeme.now (of g r.parser) (of g c.take.new.self) (empty r.depth) c.requires refl refl (refl, refl, refl, refl) r.shallow told.0
-          (λ i. false≢true (sym c.if-may-close.false ∙ c.may-close.ensures.1 i)) told.1 free;
+          (λ i. false≢true (sym c.if-may_close.false ∙ c.may_close.ensures.1 i)) told.1 free;
       beside = record { contexts = refl; depth = refl; last = refl; sheet = refl; next = refl };
     }

@@ -17,18 +17,18 @@ of g p = meaning g.P.Stepping.language g.P.Stepping.reach g.P.Probing.remainder 
 
 -- what came of the lexeme alone
 fed : (g : given.Over) (c : In-Some g) (x : Result (Unit {0}) Reason) → c.in-Some.fed ≡ x
-    → Fed (of g c.args.resolver.now.parser) (standing c.args.resolver.now) c.args.self.now.number c.args.lexeme (room c.args.queue.now) (of g c.feed-directly.new.self.parser) (standing c.feed-directly.new.self)
+    → Fed (of g c.args.resolver.now.parser) (standing c.args.resolver.now) c.args.self.now.number c.args.lexeme (room c.args.queue.now) (of g c.feed_directly.new.self.parser) (standing c.feed_directly.new.self)
     (alone c.args.resolver.now.depth x)
 fed g c x is =
     let r = c.args.resolver.now in
-    let z = c.feed-directly.new.self in
+    let z = c.feed_directly.new.self in
     subst (λ (y : Result (Unit {0}) Reason). Fed (of g r.parser) (standing r) c.args.self.now.number c.args.lexeme (room c.args.queue.now) (of g z.parser) (standing z) (alone r.depth y)) is
     (subst (λ (n : ℕ). Fed (of g r.parser) (standing r) c.args.self.now.number c.args.lexeme n (of g z.parser) (standing z) (alone r.depth c.in-Some.fed)) c.free.ensures c.in-Some.ensures)
 
 pub returns-in-Ok : goal.returns-in-Ok
 returns-in-Ok g c =
     let r = c.args.resolver.now in
-    let z = c.feed-directly.new.self in
+    let z = c.feed_directly.new.self in
     let l = c.args.lexeme in
     let t = c.args.self.now.number in
     let q = c.args.queue.now in
@@ -37,7 +37,7 @@ returns-in-Ok g c =
     let some : 0 < room q = omega (arith, fed_room (of g r.parser) r (of g z.parser) (standing z) t (room q) l (empty r.depth) one) in
     record {
       writes = fed_writes (of g r.parser) r (of g z.parser) (standing z) t (room q) l (empty r.depth) 1 (waiting q) (waiting c.put.new.self) one
-          (put_list (is_ok c.put.result) (room q) (waiting q) (waiting c.put.new.self) c.without-flag.result told.accepts some told.list ∙ ap (λ x. waiting q ++ x ∷ []) c.without-flag.ensures) refl;
+          (put_list (is_ok c.put.result) (room q) (waiting q) (waiting c.put.new.self) c.without_flag.result told.accepts some told.list ∙ ap (λ x. waiting q ++ x ∷ []) c.without_flag.ensures) refl;
       size = told.size;
       lender = told.lender;
     }
@@ -45,7 +45,7 @@ returns-in-Ok g c =
 pub returns-in-Err : goal.returns-in-Err
 returns-in-Err g c =
     let r = c.args.resolver.now in
-    let z = c.feed-directly.new.self in
+    let z = c.feed_directly.new.self in
     record {
       writes = fed_denied (of g r.parser) r (of g z.parser) (standing z) c.args.self.now.number (room c.args.queue.now) c.args.lexeme c.in-Err.reason c.fault.result (waiting c.args.queue.now)
           (fed g (goal.at.returns-in-Err g c).In-Some (Err c.in-Err.reason) c.in-Err.is) c.fault.ensures;
@@ -56,13 +56,13 @@ returns-in-Err g c =
 pub returns-in-None : goal.returns-in-None
 returns-in-None g c =
     let r = c.args.resolver.now in
-    let z = c.feed-directly.new.self in
-    let last = c.feed-by-rules.new.resolver in
+    let z = c.feed_directly.new.self in
+    let last = c.feed_by_rules.new.resolver in
     let same = c.in-None.ensures in
-    let told = c.feed-by-rules.ensures in
+    let told = c.feed_by_rules.ensures in
     record {
-      writes = feeds_from (of g r.parser) (of g z.parser) (of g last.parser) (standing r) (standing z) (standing last) c.args.self.now.number c.args.lexeme (room c.args.queue.now) (feed_answer c.feed-by-rules.result)
-          (waiting c.args.queue.now) (waiting c.feed-by-rules.new.queue) same.0 same.1 told.writes;
+      writes = feeds_from (of g r.parser) (of g z.parser) (of g last.parser) (standing r) (standing z) (standing last) c.args.self.now.number c.args.lexeme (room c.args.queue.now) (feed_answer c.feed_by_rules.result)
+          (waiting c.args.queue.now) (waiting c.feed_by_rules.new.queue) same.0 same.1 told.writes;
       size = told.size;
       lender = told.lender;
     }

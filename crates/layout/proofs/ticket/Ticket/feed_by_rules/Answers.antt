@@ -13,13 +13,13 @@ of g p = meaning g.P.Stepping.language g.P.Stepping.reach g.P.Probing.remainder 
 pub write-requires : goal.write-requires
 write-requires g c =
     let r = c.args.resolver.now in
-    let z = c.feed-lexeme.new.self in
+    let z = c.feed_lexeme.new.self in
     omega (arith, fed_room (of g r.parser) r (of g z.parser) (standing z) c.args.self.now.number c.free.result c.args.lexeme c.in-Ok.draft c.in-Ok.ensures, c.free.ensures)
 
 pub returns-in-Ok : goal.returns-in-Ok
 returns-in-Ok g c =
     let r = c.args.resolver.now in
-    let z = c.feed-lexeme.new.self in
+    let z = c.feed_lexeme.new.self in
     let l = c.args.lexeme in
     let d = c.in-Ok.draft in
     let t = c.args.self.now.number in
@@ -33,7 +33,7 @@ returns-in-Ok g c =
 pub returns-in-Err : goal.returns-in-Err
 returns-in-Err g c =
     let r = c.args.resolver.now in
-    let z = c.feed-lexeme.new.self in
+    let z = c.feed_lexeme.new.self in
     let l = c.args.lexeme in
     let t = c.args.self.now.number in
     record {

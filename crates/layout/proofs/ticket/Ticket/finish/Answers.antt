@@ -13,13 +13,13 @@ of g p = meaning g.P.Stepping.language g.P.Stepping.reach g.P.Probing.remainder 
 pub write-requires : goal.write-requires
 write-requires g c =
     let r = c.args.resolver.now in
-    let z = c.finish-sheet.new.self in
+    let z = c.finish_sheet.new.self in
     omega (arith, finished_room (of g r.parser) r (of g z.parser) (standing z) c.args.self.number c.free.result c.args.end c.in-Ok.draft c.in-Ok.ensures, c.free.ensures)
 
 pub returns-in-Ok : goal.returns-in-Ok
 returns-in-Ok g c =
     let r = c.args.resolver.now in
-    let z = c.finish-sheet.new.self in
+    let z = c.finish_sheet.new.self in
     let p = c.args.end in
     let d = c.in-Ok.draft in
     let t = c.args.self.number in
@@ -34,7 +34,7 @@ returns-in-Ok g c =
 pub returns-in-Err : goal.returns-in-Err
 returns-in-Err g c =
     let r = c.args.resolver.now in
-    let z = c.finish-sheet.new.self in
+    let z = c.finish_sheet.new.self in
     let p = c.args.end in
     let t = c.args.self.number in
     record {

@@ -12,10 +12,10 @@ use Rattle.layout.proofs.ticket.Ticket.give_up.Goals as goal
 abbrev of : (g : given.Over) → g.row.P.Denot → Meaning
 of g p = meaning g.P.Stepping.language g.P.Stepping.reach g.P.Probing.remainder g.P.Stepping.left g.P.Stepping.saved p
 
-pub returns-then-not-is-open : goal.returns-then-not-is-open
-returns-then-not-is-open g c =
+pub returns-then-not-is_open : goal.returns-then-not-is_open
+returns-then-not-is_open g c =
     let r = c.args.resolver.now in
-    record { calls = gives_up_wrong (of g r.parser) r c.fault.result c.args.self.number (λ e. false≢true (sym c.if-not-is-open.true ∙ c.is-open.ensures.1 e)) c.fault.ensures; ticket = refl }
+    record { calls = gives_up_wrong (of g r.parser) r c.fault.result c.args.self.number (λ e. false≢true (sym c.if-not-is_open.true ∙ c.is_open.ensures.1 e)) c.fault.ensures; ticket = refl }
 
 pub returns : goal.returns
 returns g c =
@@ -23,6 +23,6 @@ returns g c =
     let z = c.close.new.self in
     record {
       calls = subst (λ p. Calls (of g r.parser) (standing r) (GiveUp c.args.self.number) Closed [] (of g p) (standing z)) (sym c.close.ensures.parser)
-          (gives_up_open (of g r.parser) r (standing z) c.args.self.number (c.is-open.ensures.0 c.if-not-is-open.false) c.close.ensures.standing);
+          (gives_up_open (of g r.parser) r (standing z) c.args.self.number (c.is_open.ensures.0 c.if-not-is_open.false) c.close.ensures.standing);
       ticket = tt;
     }

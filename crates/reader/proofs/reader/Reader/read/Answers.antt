@@ -10,20 +10,20 @@ use Rattle.reader.proofs.reader.Reader.read.Goals.{In-Ok, In-Some}
 
 -- what was found comes first of what is left
 found_first : (c : In-Some) → items (text_of c.args.self.now) (offset_of c.loop-found.self)
-    ≡ item_of c.after-gaps-self.result.offset c.in-Some.ensures.long c.in-Some.found.what ∷ items (text_of c.args.self.now) c.in-Some.found.after.offset
-found_first c = first_left c.loop-found.invariant _ _ _ c.after-gaps-self.ensures.same c.in-Some.ensures.told
+    ≡ item_of c.after_gaps-self.result.offset c.in-Some.ensures.long c.in-Some.found.what ∷ items (text_of c.args.self.now) c.in-Some.found.after.offset
+found_first c = first_left c.loop-found.invariant _ _ _ c.after_gaps-self.ensures.same c.in-Some.ensures.told
 
 -- and is a lexeme where the code says so
 good_first : (c : In-Ok) → items (text_of c.args.self.now) (offset_of c.loop-found.self) ≡ good c.in-Ok.lexeme ∷ items (text_of c.args.self.now) c.in-Some.found.after.offset
 good_first c =
-    first_left c.loop-found.invariant _ _ _ c.after-gaps-self.ensures.same c.in-Some.ensures.told
-    ∙ ap (λ w. item_of c.after-gaps-self.result.offset c.in-Some.ensures.long w ∷ items (text_of c.args.self.now) c.in-Some.found.after.offset) c.in-Ok.is
+    first_left c.loop-found.invariant _ _ _ c.after_gaps-self.ensures.same c.in-Some.ensures.told
+    ∙ ap (λ w. item_of c.after_gaps-self.result.offset c.in-Some.ensures.long w ∷ items (text_of c.args.self.now) c.in-Some.found.after.offset) c.in-Ok.is
 
-pub returns-in-default : goal.returns-in-default
-returns-in-default c =
+pub returns-in_default : goal.returns-in_default
+returns-in_default c =
     let sofar = c.loop-found.invariant in
-    let end = c.in-default.ensures in
-    let out = halted_at_end sofar (none_left sofar _ c.after-gaps-self.ensures.same end.none) in
+    let end = c.in_default.ensures in
+    let out = halted_at_end sofar (none_left sofar _ c.after_gaps-self.ensures.same end.none) in
     record {
       answer = out.answered;
       list = out.waits;
@@ -34,16 +34,16 @@ returns-in-default c =
       lender = sofar.lender;
     }
 
-pub returns-in-err-put : goal.returns-in-err-put
-returns-in-err-put c =
+pub returns-in_err-put-in-Ok : goal.returns-in_err-put-in-Ok
+returns-in_err-put-in-Ok c =
     let sofar = c.loop-found.invariant in
-    let i = c.after-gaps-self.result.offset in
+    let i = c.after_gaps-self.result.offset in
     let found = c.in-Some.ensures in
-    let refused = c.in-err-put.ensures in
-    let lexeme = good_first (goal.at.returns-in-err-put c).In-Ok in
+    let refused = c.in_err-put-in-Ok.ensures in
+    let lexeme = good_first (goal.at.returns-in_err-put-in-Ok c).In-Ok in
     let out = halted_at_full sofar c.in-Ok.lexeme _ lexeme (omega (arith, ltb-false 0 _ (sym refused.accepts))) in
     let begins : c.in-Ok.lexeme.offset ≡ i = subst (Begins i) c.in-Ok.is found.begins in
-    let turned = err_from_is_err_and c.from-residual.result c.from-residual.ensures.1 in
+    let turned = err_from_is_err_and c.from_residual.result c.from_residual.ensures.1 in
     record {
       answer = turned.1 ∙ ap Err turned.2 ∙ out.answered;
       list = refused.list ∙ out.waits;
@@ -57,7 +57,7 @@ returns-in-err-put c =
 pub returns-in-Err : goal.returns-in-Err
 returns-in-Err c =
     let sofar = c.loop-found.invariant in
-    let i = c.after-gaps-self.result.offset in
+    let i = c.after_gaps-self.result.offset in
     let found = c.in-Some.ensures in
     let first = found_first (goal.at.returns-in-Err c).In-Some in
     let out = halted_at_fault sofar i found.long c.in-Err.fault _ (first ∙ ap (λ w. item_of i found.long w ∷ items (text_of c.args.self.now) c.in-Some.found.after.offset) c.in-Err.is) in
@@ -74,12 +74,12 @@ returns-in-Err c =
 pub loop-found-smaller : goal.loop-found-smaller
 loop-found-smaller c =
     let found = c.in-Some.ensures in
-    omega (arith, found.some, found.past, found.placed.within, c.after-gaps-self.ensures.onward)
+    omega (arith, found.some, found.past, found.placed.within, c.after_gaps-self.ensures.onward)
 
 pub loop-found-preserved : goal.loop-found-preserved
 loop-found-preserved c =
     let found = c.in-Some.ensures in
-    let accepted = c.in-ok-put.ensures in
+    let accepted = c.in_ok-put-in-Ok.ensures in
     one_more c.loop-found.invariant c.in-Ok.lexeme _ c.put.new.self refl (good_first (goal.at.loop-found-preserved c).In-Ok)
-    (omega (arith, found.some, found.past, c.after-gaps-self.ensures.onward)) accepted.list
+    (omega (arith, found.some, found.past, c.after_gaps-self.ensures.onward)) accepted.list
     (omega (arith, ltb-true 0 _ (sym accepted.accepts), accepted.left)) accepted.size accepted.lender

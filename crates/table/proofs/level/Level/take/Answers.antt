@@ -10,8 +10,8 @@ returns-then-self-eq0 c =
     let self = c.args.self.now in
     (met_viable _ _ _ _ _ c.in-Some.ensures, c.if-self-eq0.true, alike_refl (means (drop self.top self.places) self.left absent))
 
-pub invariant-of-self-in-Some : goal.invariant-of-self-in-Some
-invariant-of-self-in-Some c =
+pub invariant_of-self-in-Some : goal.invariant_of-self-in-Some
+invariant_of-self-in-Some c =
     let self = c.args.self.now in
     let walk = c.in-Some.walk in
     let met = c.in-Some.ensures in
@@ -26,7 +26,7 @@ invariant-of-self-in-Some c =
     let ahead = ap length c.ahead.ensures in
     let stack = laid.laid ∙ ap₂ (λ x b. x ++ drop b self.places) c.ahead.ensures below in
     let some = c.if-self-eq0.false in
-    (c.lay-self.auto.places ∙ long, (omega arith, (omega arith, (ends_same (drop walk.first walk.ahead ++ drop walk.below self.places) _ stack met.ends, tt))))
+    record { depth = c.lay-self.auto.places ∙ long; inside = omega arith; room = omega arith; ends = ends_same (drop walk.first walk.ahead ++ drop walk.below self.places) _ stack met.ends }
 
 pub returns-else-self-eq0 : goal.returns-else-self-eq0
 returns-else-self-eq0 c =

@@ -33,11 +33,11 @@ loop-reader-init g c =
       readings_none (of g r.parser) (standing r) c.args.ticket.now.number c.args.text.now (offset_of c.open-reader.result) (vec_items k.tokens) (vec_items k.faults) c.open-reader.ensures.start few,
     )
 
-pub feed-waiting-requires : goal.feed-waiting-requires
-feed-waiting-requires g c = let i = c.loop-reader.invariant in record { empty = i.2; places = i.3; few = i.4 }
+pub feed_waiting-requires : goal.feed_waiting-requires
+feed_waiting-requires g c = let i = c.loop-reader.invariant in record { empty = i.2; places = i.3; few = i.4 }
 
-pub returns-in-err-feed-waiting : goal.returns-in-err-feed-waiting
-returns-in-err-feed-waiting g c = record { within = within_on c.loop-reader.invariant.6.within c.in-err-feed-waiting.ensures.within; keeps = search rules; place = search rules }
+pub returns-in_err-feed_waiting : goal.returns-in_err-feed_waiting
+returns-in_err-feed_waiting g c = record { within = within_on c.loop-reader.invariant.6.within c.in_err-feed_waiting.ensures.within; keeps = search rules; place = search rules }
 
 -- the lexemes that were read are those that were fed
 module _ (r : Reader) (q q' : Queue Lexeme) (text : List ℕ) (same : text_of r ≡ text) (empty : waiting q ≡ []) (list : waiting q' ≡ waiting q ++ (reads r q).put) where
@@ -56,12 +56,12 @@ returns-in-Ok g c =
     let r = c.loop-reader.reader in
     let q = c.loop-reader.lexemes in
     let text = c.args.text.now in
-    let w = c.in-ok-feed-waiting.ensures.within in
+    let w = c.in_ok-feed_waiting.ensures.within in
     let e = c.in-Ok.ensures in
     let a = answer_is r q c.read-answer.new.queue text i.5 i.0 e.list (Ok c.in-Ok.field-0) e.answer in
     let k = (subst (λ (l : List Lexeme). Keeps (of g c.loop-reader.resolver.parser) (standing c.loop-reader.resolver) c.args.ticket.now.number (map Ok l)
-    (vec_items c.loop-reader.kept.tokens) (vec_items c.feed-waiting.new.kept.tokens) (vec_items c.loop-reader.kept.faults) (vec_items c.feed-waiting.new.kept.faults)
-    (of g c.feed-waiting.new.resolver.parser) (standing c.feed-waiting.new.resolver)) (put_is r q c.read-answer.new.queue text i.5 i.0 c.read-answer.ensures.list) c.in-ok-feed-waiting.ensures.keeps) in
+    (vec_items c.loop-reader.kept.tokens) (vec_items c.feed_waiting.new.kept.tokens) (vec_items c.loop-reader.kept.faults) (vec_items c.feed_waiting.new.kept.faults)
+    (of g c.feed_waiting.new.resolver.parser) (standing c.feed_waiting.new.resolver)) (put_is r q c.read-answer.new.queue text i.5 i.0 c.read-answer.ensures.list) c.in_ok-feed_waiting.ensures.keeps) in
     let end : offset_of c.read-answer.new.self ≡ length text = next_is r q c.read-answer.new.queue text i.5 i.0 e.list (offset_of c.read-answer.new.self) e.next ∙ end_place i.6 (room q) w k c.in-Ok.field-0 a in
     let same : text_of c.read-answer.new.self ≡ text = e.text ∙ i.5 in
     record {
@@ -70,11 +70,11 @@ returns-in-Ok g c =
       place = c.place.ensures ∙ ap (λ (t : List ℕ). record { line = line_at t (offset_of c.read-answer.new.self); column = column_at t (offset_of c.read-answer.new.self) }) same ∙ ap (λ (j : ℕ). record { line = line_at text j; column = column_at text j }) end;
     }
 
-pub note-stop-requires : goal.note-stop-requires
-note-stop-requires g c = omega (arith, keeps_few c.in-ok-feed-waiting.ensures.keeps, c.feed-waiting.new.kept.faults.ok.0)
+pub note_stop-requires : goal.note_stop-requires
+note_stop-requires g c = omega (arith, keeps_few c.in_ok-feed_waiting.ensures.keeps, c.feed_waiting.new.kept.faults.ok.0)
 
-pub returns-in-err-note-stop : goal.returns-in-err-note-stop
-returns-in-err-note-stop g c = record { within = within_on c.loop-reader.invariant.6.within c.in-ok-feed-waiting.ensures.within; keeps = search rules; place = search rules }
+pub returns-in_err-note_stop-in-Err : goal.returns-in_err-note_stop-in-Err
+returns-in_err-note_stop-in-Err g c = record { within = within_on c.loop-reader.invariant.6.within c.in_ok-feed_waiting.ensures.within; keeps = search rules; place = search rules }
 
 pub loop-reader-preserved : goal.loop-reader-preserved
 loop-reader-preserved g c =
@@ -82,19 +82,19 @@ loop-reader-preserved g c =
     let r = c.loop-reader.reader in
     let q = c.loop-reader.lexemes in
     let text = c.args.text.now in
-    let f = c.in-ok-feed-waiting.ensures in
+    let f = c.in_ok-feed_waiting.ensures in
     let e = c.in-Err.ensures in
-    let z = c.feed-waiting.new.resolver in
+    let z = c.feed_waiting.new.resolver in
     let a = answer_is r q c.read-answer.new.queue text i.5 i.0 e.list (Err c.in-Err.stop) e.answer in
     let k = (subst (λ (l : List Lexeme). Keeps (of g c.loop-reader.resolver.parser) (standing c.loop-reader.resolver) c.args.ticket.now.number (map Ok l)
-    (vec_items c.loop-reader.kept.tokens) (vec_items c.feed-waiting.new.kept.tokens) (vec_items c.loop-reader.kept.faults) (vec_items c.feed-waiting.new.kept.faults)
-    (of g c.feed-waiting.new.resolver.parser) (standing c.feed-waiting.new.resolver)) (put_is r q c.read-answer.new.queue text i.5 i.0 c.read-answer.ensures.list) c.in-ok-feed-waiting.ensures.keeps) in
-    let stop = keeps_stop (of g z.parser) (standing z) c.args.ticket.now.number c.in-Err.stop (vec_items c.feed-waiting.new.kept.tokens) (vec_items c.feed-waiting.new.kept.faults) (vec_items c.note-stop.new.faults) c.in-ok-note-stop.ensures in (
+    (vec_items c.loop-reader.kept.tokens) (vec_items c.feed_waiting.new.kept.tokens) (vec_items c.loop-reader.kept.faults) (vec_items c.feed_waiting.new.kept.faults)
+    (of g c.feed_waiting.new.resolver.parser) (standing c.feed_waiting.new.resolver)) (put_is r q c.read-answer.new.queue text i.5 i.0 c.read-answer.ensures.list) c.in_ok-feed_waiting.ensures.keeps) in
+    let stop = keeps_stop (of g z.parser) (standing z) c.args.ticket.now.number c.in-Err.stop (vec_items c.feed_waiting.new.kept.tokens) (vec_items c.feed_waiting.new.kept.faults) (vec_items c.note_stop.new.faults) c.in_ok-note_stop-in-Err.ensures in (
       f.taken,
-      f.read-size ∙ e.size ∙ i.1,
+      f.read_size ∙ e.size ∙ i.1,
       f.emptied,
       f.size ∙ i.3,
-      omega (arith, keeps_few stop, c.note-stop.new.faults.ok.0),
+      omega (arith, keeps_few stop, c.note_stop.new.faults.ok.0),
       e.text ∙ i.5,
       read_on i.6 (room q) f.within k c.in-Err.stop (offset_of c.read-answer.new.self) a (next_is r q c.read-answer.new.queue text i.5 i.0 e.list (offset_of c.read-answer.new.self) e.next) stop,
     )

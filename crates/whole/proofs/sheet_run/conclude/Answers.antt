@@ -18,15 +18,15 @@ of g p = meaning g.P.Stepping.language g.P.Stepping.reach g.P.Probing.remainder 
 pub finish-requires : goal.finish-requires
 finish-requires g c =
     let v = c.args.kept.faults in
-    let zero : vec_len v ≡ 0 = eqb-true (vec_len v) 0 (sym c.if-is-empty.ensures) in
+    let zero : vec_len v ≡ 0 = eqb-true (vec_len v) 0 (sym c.if-is_empty.ensures) in
     record { sheet = c.requires.sheet; clean = nil_from_length (vec_items v) (omega (arith, zero, v.ok.0)) }
 
-pub returns-then-is-empty : goal.returns-then-is-empty
-returns-then-is-empty g c =
+pub returns-then-is_empty : goal.returns-then-is_empty
+returns-then-is_empty g c =
     let r = c.args.resolver.now in
     let z = c.finish.new.resolver in
     let v = c.args.kept.faults in
-    let zero : vec_len v ≡ 0 = eqb-true (vec_len v) 0 (sym c.if-is-empty.ensures) in
+    let zero : vec_len v ≡ 0 = eqb-true (vec_len v) 0 (sym c.if-is_empty.ensures) in
     let clean : vec_items v ≡ [] = nil_from_length (vec_items v) (omega (arith, zero, v.ok.0)) in
     record {
       ends = IfOk-weaker c.finish.result _ _
@@ -37,6 +37,6 @@ returns-then-is-empty g c =
 pub returns : goal.returns
 returns g c =
     let v = c.args.kept.faults in
-    let some : 0 < length (vec_items v) = omega (arith, eqb-false (vec_len v) 0 (sym c.if-is-empty.ensures), v.ok.0) in
+    let some : 0 < length (vec_items v) = omega (arith, eqb-false (vec_len v) 0 (sym c.if-is_empty.ensures), v.ok.0) in
     let few : length (vec_items v) ≤ 256 = omega (arith, c.requires.few, v.ok.0) in
-    record { ends = ended_given_up c.args.end (vec_items c.args.kept.tokens) (vec_items v) some few c.requires.sheet c.give-up.ensures.calls; shut = c.give-up.ensures.shut }
+    record { ends = ended_given_up c.args.end (vec_items c.args.kept.tokens) (vec_items v) some few c.requires.sheet c.give_up.ensures.calls; shut = c.give_up.ensures.shut }

@@ -15,42 +15,42 @@ use Rattle.whole.proofs.sheet_run.finish.Goals as goal
 abbrev of : (g : given.Over) → g.row.P.Denot → Meaning
 of g p = meaning g.P.Stepping.language g.P.Stepping.reach g.P.Probing.remainder g.P.Stepping.left g.P.Stepping.saved p
 
-pub returns-in-err-drain : goal.returns-in-err-drain
-returns-in-err-drain g c = record { ends = search rules; shut = finish_shut c.in-Ok.ensures.writes }
+pub returns-in_err-drain-in-Ok : goal.returns-in_err-drain-in-Ok
+returns-in_err-drain-in-Ok g c = record { ends = search rules; shut = finish_shut c.in-Ok.ensures.writes }
 
-pub give_up_requires : goal.give-up-requires
-give_up_requires g c = refused_open c.in-Err.ensures.writes ∙ c.requires.sheet ∙ ap (λ (n : ℕ). Some n) (sym c.in-Err.ensures.ticket)
+pub give_up-requires : goal.give_up-requires
+give_up-requires g c = refused_open c.in-Err.ensures.writes ∙ c.requires.sheet ∙ ap (λ (n : ℕ). Some n) (sym c.in-Err.ensures.ticket)
 
-pub returns-in-err-push : goal.returns-in-err-push
-returns-in-err-push g c = record { ends = search rules; shut = then_shut (refused_same c.in-Err.ensures.writes) c.give-up.ensures.shut }
+pub returns-in_err-push-in-Err : goal.returns-in_err-push-in-Err
+returns-in_err-push-in-Err g c = record { ends = search rules; shut = then_shut (refused_same c.in-Err.ensures.writes) c.give_up.ensures.shut }
 
-pub returns-in-ok-drain : goal.returns-in-ok-drain
-returns-in-ok-drain g c =
+pub returns-in_ok-drain-in-Ok : goal.returns-in_ok-drain-in-Ok
+returns-in_ok-drain-in-Ok g c =
     let r = c.args.resolver.now in
     let z = c.finish.new.resolver in
     let q = c.new-queue.result in
     let enough : room q ≡ places = omega (arith, c.new-queue.ensures.size, ap length c.new-queue.ensures.list) in
     record {
       ends = ended_finished (of g r.parser) (of g z.parser) (standing r) (standing z) c.args.ticket.number c.args.end (room q) enough (waiting q) (waiting c.finish.new.queue) c.new-queue.ensures.list (vec_items c.args.kept.tokens)
-          c.in-Ok.field-0 (Ok (vec_items c.drain.new.tokens)) (vec_items c.drain.new.tokens) c.in-Ok.ensures.writes c.in-ok-drain.ensures.kept refl;
+          c.in-Ok.field-0 (Ok (vec_items c.drain.new.tokens)) (vec_items c.drain.new.tokens) c.in-Ok.ensures.writes c.in_ok-drain-in-Ok.ensures.kept refl;
       shut = finish_shut c.in-Ok.ensures.writes;
     }
 
-pub returns-in-ok-push : goal.returns-in-ok-push
-returns-in-ok-push g c =
+pub returns-in_ok-push-in-Err : goal.returns-in_ok-push-in-Err
+returns-in_ok-push-in-Err g c =
     let r = c.args.resolver.now in
     let z = c.finish.new.resolver in
-    let y = c.give-up.new.resolver in
+    let y = c.give_up.new.resolver in
     let q = c.new-queue.result in
     let w = c.in-Err.ensures.writes in
     let t = c.args.ticket.number in
     let p = c.args.end in
     let enough : room q ≡ places = omega (arith, c.new-queue.ensures.size, ap length c.new-queue.ensures.list) in
     let number : c.in-Err.field-0.ticket.number ≡ t = c.in-Err.ensures.ticket in
-    let gives = subst (λ (n : ℕ). Calls (of g z.parser) (standing z) (GiveUp n) Closed [] (of g y.parser) (standing y)) number c.give-up.ensures.calls in
-    let faults : vec_items c.push.new.self ≡ c.in-Err.field-0.fault ∷ [] = c.in-ok-push.ensures.items ∙ ap (λ (l : List Fault). l ++ c.in-Err.field-0.fault ∷ []) c.requires.clean in
+    let gives = subst (λ (n : ℕ). Calls (of g z.parser) (standing z) (GiveUp n) Closed [] (of g y.parser) (standing y)) number c.give_up.ensures.calls in
+    let faults : vec_items c.push.new.self ≡ c.in-Err.field-0.fault ∷ [] = c.in_ok-push-in-Err.ensures.items ∙ ap (λ (l : List Fault). l ++ c.in-Err.field-0.fault ∷ []) c.requires.clean in
     record {
       ends = subst (λ (fs : List Fault). Ended (of g r.parser) (standing r) t p (vec_items c.args.kept.tokens) [] (Err fs) (standing y)) (sym faults)
           (ended_unfinished (of g r.parser) (of g z.parser) (standing r) (standing z) t p (room q) enough (waiting q) (waiting c.finish.new.queue) c.new-queue.ensures.list (vec_items c.args.kept.tokens) (of g y.parser) (standing y) c.in-Err.field-0.fault [] w (refused_open w ∙ c.requires.sheet) gives);
-      shut = then_shut (refused_same w) c.give-up.ensures.shut;
+      shut = then_shut (refused_same w) c.give_up.ensures.shut;
     }

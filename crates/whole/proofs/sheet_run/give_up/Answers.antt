@@ -12,11 +12,11 @@ abbrev of : (g : given.Over) → g.row.P.Denot → Meaning
 of g p = meaning g.P.Stepping.language g.P.Stepping.reach g.P.Probing.remainder g.P.Stepping.left g.P.Stepping.saved p
 
 pub unwrap-requires : goal.unwrap-requires
-unwrap-requires g c = can_give_up c.give-up.result c.requires c.give-up.ensures.calls.does
+unwrap-requires g c = can_give_up c.give_up.result c.requires c.give_up.ensures.calls.does
 
 pub returns : goal.returns
 returns g c =
     let r = c.args.resolver.now in
-    let z = c.give-up.new.resolver in
-    let calls = subst (λ (a : Result (Unit {0}) Refusal). Calls (of g r.parser) (standing r) (GiveUp c.args.ticket.number) (give_up_answer a) [] (of g z.parser) (standing z)) c.unwrap.ensures c.give-up.ensures.calls in
+    let z = c.give_up.new.resolver in
+    let calls = subst (λ (a : Result (Unit {0}) Refusal). Calls (of g r.parser) (standing r) (GiveUp c.args.ticket.number) (give_up_answer a) [] (of g z.parser) (standing z)) c.unwrap.ensures c.give_up.ensures.calls in
     record { calls = calls; shut = gives_shut calls }

@@ -5,7 +5,7 @@ use Rattle.whole.proofs.Feeds.{keeps_few}
 use Rattle.whole.proofs.sheet_run.run.Goals as goal
 
 pub conclude-requires : goal.conclude-requires
-conclude-requires g c = let e = c.in-Ok.ensures in record { sheet = e.within.sheet ∙ c.requires.sheet; few = omega (arith, keeps_few e.keeps, c.feed-all.new.kept.faults.ok.0) }
+conclude-requires g c = let e = c.in-Ok.ensures in record { sheet = e.within.sheet ∙ c.requires.sheet; few = omega (arith, keeps_few e.keeps, c.feed_all.new.kept.faults.ok.0) }
 
 pub returns-in-Ok : goal.returns-in-Ok
 returns-in-Ok g c =
@@ -16,4 +16,4 @@ returns-in-Ok g c =
     }
 
 pub returns-in-Err : goal.returns-in-Err
-returns-in-Err g c = record { ran = tt; shut = then_shut c.in-Err.ensures.within.parser c.give-up.ensures.shut }
+returns-in-Err g c = record { ran = tt; shut = then_shut c.in-Err.ensures.within.parser c.give_up.ensures.shut }

@@ -41,9 +41,9 @@ returns-in-Err g c =
     let b = c.in-Err.ensures in
     let text = c.args.text.now in
     record {
-      comes = IfOk-weaker c.not-begun.result _ _ (λ o x. comes_not_begun (of g r.parser) (of g z.parser) (standing r) (standing z) f [] text (outcome o) b x) c.not-begun.ensures;
-      law = IfOk-weaker c.not-begun.result _ _
-          (λ o x. lawful (g.P.Stepping.language r.parser) (g.P.Stepping.reach r.parser) text (outcome o) (comes_not_begun (of g r.parser) (of g z.parser) (standing r) (standing z) f [] text (outcome o) b x).whole) c.not-begun.ensures;
+      comes = IfOk-weaker c.not_begun.result _ _ (λ o x. comes_not_begun (of g r.parser) (of g z.parser) (standing r) (standing z) f [] text (outcome o) b x) c.not_begun.ensures;
+      law = IfOk-weaker c.not_begun.result _ _
+          (λ o x. lawful (g.P.Stepping.language r.parser) (g.P.Stepping.reach r.parser) text (outcome o) (comes_not_begun (of g r.parser) (of g z.parser) (standing r) (standing z) f [] text (outcome o) b x).whole) c.not_begun.ensures;
       parser = not_begun_parser (of g r.parser) (of g z.parser) (standing r) (standing z) f [] b;
       sheet = not_begun_sheet (of g r.parser) (of g z.parser) (standing r) (standing z) f [] b;
     }

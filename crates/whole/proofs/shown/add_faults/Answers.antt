@@ -14,8 +14,8 @@ pub loop-fault-preserved : goal.loop-fault-preserved
 loop-fault-preserved c =
     let xs = c.args.faults.now in
     let i = c.loop-fault.fault-index in
-    added_more xs i (vec_items c.loop-fault.bytes) (vec_items c.args.bytes.now ++ flat_map fault_line xs) (flat_map fault_line) c.loop-fault.invariant no_fault (flat_map fault_line) (vec_items c.add-fault.new.bytes) (fault_line (get_or xs i no_fault)) (omega arith)
-    c.in-ok-add-fault.ensures refl
+    added_more xs i (vec_items c.loop-fault.bytes) (vec_items c.args.bytes.now ++ flat_map fault_line xs) (flat_map fault_line) c.loop-fault.invariant no_fault (flat_map fault_line) (vec_items c.add_fault.new.bytes) (fault_line (get_or xs i no_fault)) (omega arith)
+    c.in_ok-add_fault.ensures refl
 
 pub returns : goal.returns
 returns c =

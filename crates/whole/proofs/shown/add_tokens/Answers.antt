@@ -14,8 +14,8 @@ loop-token-preserved c =
     let text = c.args.text.now in
     let i = c.loop-token.token-index in
     let follows = c.loop-token.follows in
-    added_more xs i (vec_items c.loop-token.bytes) (vec_items c.args.bytes.now ++ spaced text false xs) (spaced text follows) c.loop-token.invariant no_token (spaced text true) (vec_items c.add-token.new.bytes) (one_spaced text follows (get_or xs i no_token)) (omega arith)
-    c.in-ok-add-token.ensures refl
+    added_more xs i (vec_items c.loop-token.bytes) (vec_items c.args.bytes.now ++ spaced text false xs) (spaced text follows) c.loop-token.invariant no_token (spaced text true) (vec_items c.add_token.new.bytes) (one_spaced text follows (get_or xs i no_token)) (omega arith)
+    c.in_ok-add_token.ensures refl
 
 pub returns : goal.returns
 returns c =

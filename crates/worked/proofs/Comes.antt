@@ -2,7 +2,7 @@
 -- Assumes nothing.
 use Rattle.std.specs.Prelude.{ℕ, zero, suc, ◌<◌, List, [], ◌∷◌, ◌++◌}
 use Rattle.table.specs.Stack.{Ends, SameFor, Follows, Never}
-use Rattle.table.specs.Steps.{left_of}
+use Rattle.worked.proofs.Steps.{left_of}
 
 -- as t comes next, some symbols before the rest come to this step: no list derived from them all begins with t; the same such lists are derived from the rest alone; or what is left and the rest derive what followed t
 abbrev pub Makes : ℕ → List ℕ → List ℕ → ℕ → Type 0

@@ -10,8 +10,8 @@ use Rattle.grammar.proofs.Tests.{below, at_below}
 use Rattle.table.specs.Cells.{cells}
 use Rattle.table.specs.Entry.{Entry}
 use Rattle.table.specs.Stack.{Ends, SameFor, Follows, Never}
-use Rattle.table.specs.Steps.{left_of, step_at}
-use Rattle.table.specs.Comes.{Makes, Comes}
+use Rattle.worked.proofs.Steps.{left_of, step_at}
+use Rattle.worked.proofs.Comes.{Makes, Comes}
 use Rattle.table.proofs.Rule.{entry_at}
 use Rattle.table.proofs.Expand.{entry_zero, entry_expands, ends_expand, ends_pop, ends_known, kind_other, kind_met}
 

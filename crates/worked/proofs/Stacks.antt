@@ -7,12 +7,12 @@ use Rattle.grammar.specs.Sets.{nullables}
 use Rattle.grammar.specs.Sheet.{sheet}
 use Rattle.grammar.proofs.Closed.{vanishes}
 use Rattle.grammar.proofs.SheetSets.{kinds_derived, null, vanishes_exact}
-use Rattle.table.specs.Comes.{Comes}
+use Rattle.worked.proofs.Comes.{Comes}
 use Rattle.table.specs.Level.{remains}
 use Rattle.table.specs.Stack.{Ends, Follows, Never, SameFor}
-use Rattle.table.specs.Steps.{left_of, step_at}
+use Rattle.worked.proofs.Steps.{left_of, step_at}
 use Rattle.table.proofs.Expand.{empty_never, ends_known, ends_pop, ends_start, kind_met, kind_other}
-use Rattle.table.proofs.Leads.{step_at_lem}
+use Rattle.worked.proofs.Leads.{step_at_lem}
 use Rattle.layout.specs.Rules.{Viable}
 use Rattle.worked.proofs.Tells.{Tells, tells_at_most, tells_below, tells_both, tells_equal}
 

@@ -1,9 +1,7 @@
--- The steps as the crate keeps them: a row for each nonterminal from 16 on, a column for each kind, and the first column
--- for none. What they mean is said in Comes.
+-- What a nonterminal comes to when a kind comes next, carried through until a kind stands first, so that it computes fast:
+-- a row for each nonterminal from 16 on, a column for each kind, and the first column for none. Comes says what a step means.
 -- Assumes nothing.
-use Rattle.std.specs.Prelude.{ℕ, suc, ◌-◌, List, [], ◌∷◌, ◌++◌, length, replicate, slice_index, slice_index_or}
-use Rattle.table.specs.declared.steps.Step.{Step}
-use Rattle.table.specs.declared.steps.Step.TheVariants.{Rejected, Vanishes, Meets}
+use Rattle.std.specs.Prelude.{ℕ, ◌-◌, List, [], ◌∷◌, slice_index, slice_index_or}
 
 -- 0 for rejected, 1 for vanishing, and from 2 on met, with a number of what is left
 abbrev pub step_rows : List (List ℕ)
@@ -42,16 +40,6 @@ lefts =
 abbrev pub left_of : ℕ → List ℕ
 left_of n = slice_index_or lefts n []
 
--- behind as many zeros as make it four
-abbrev pub padded : ℕ → List ℕ
-padded n = replicate (4 - length (left_of n)) 0 ++ left_of n
-
 -- the number of what a nonterminal comes to
 abbrev pub step_at : ℕ → ℕ → ℕ
 step_at a t = slice_index (slice_index_or step_rows (a - 16) []) t
-
--- the number that a step has there
-abbrev pub number_of : Step → ℕ
-number_of Rejected = 0
-number_of Vanishes = 1
-number_of (Meets n) = suc (suc n)

@@ -16,7 +16,8 @@ fn add_count(out: &mut String, tokens: &[Token], from: usize, count: usize) -> f
         let length = token.length;
         write!(out, " | {kind} {line} {column} {offset} {length}")?;
     }
-    writeln!(out)
+    writeln!(out)?;
+    Ok(())
 }
 
 // The answers of a run, a line each.

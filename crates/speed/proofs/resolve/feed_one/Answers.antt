@@ -23,9 +23,9 @@ returns-in-Ok g c =
     let w = c.in-Ok.ensures.writes in
     record {
       within = one_within (of g r.parser) (of g r'.parser) (standing r) (standing r') t l (room q) enough (waiting q) (waiting c.feed.new.queue) c.requires.empty _ w;
-      adds = one_accepted (of g r.parser) (of g r'.parser) (standing r) (standing r') t l (room q) enough (waiting q) (waiting c.feed.new.queue) c.requires.empty c.args.tally.now _ c.in-Ok.field-0 w c.take-tokens-tally.ensures.value refl;
-      emptied = c.take-tokens-tally.ensures.emptied;
-      size = c.take-tokens-tally.ensures.size ∙ c.in-Ok.ensures.size;
+      adds = one_accepted (of g r.parser) (of g r'.parser) (standing r) (standing r') t l (room q) enough (waiting q) (waiting c.feed.new.queue) c.requires.empty c.args.tally.now _ c.in-Ok.field-0 w c.take_tokens-tally.ensures.value refl;
+      emptied = c.take_tokens-tally.ensures.emptied;
+      size = c.take_tokens-tally.ensures.size ∙ c.in-Ok.ensures.size;
     }
 
 pub returns-in-Err : goal.returns-in-Err
@@ -39,7 +39,7 @@ returns-in-Err g c =
     let w = c.in-Err.ensures.writes in
     record {
       within = one_within (of g r.parser) (of g r'.parser) (standing r) (standing r') t l (room q) enough (waiting q) (waiting c.feed.new.queue) c.requires.empty _ w;
-      adds = one_refused (of g r.parser) (of g r'.parser) (standing r) (standing r') t l (room q) enough (waiting q) (waiting c.feed.new.queue) c.requires.empty c.args.tally.now c.add-fault.new.tally c.in-Err.fault w c.add-fault.ensures.sum c.add-fault.ensures.refused;
+      adds = one_refused (of g r.parser) (of g r'.parser) (standing r) (standing r') t l (room q) enough (waiting q) (waiting c.feed.new.queue) c.requires.empty c.args.tally.now c.add_fault.new.tally c.in-Err.fault w c.add_fault.ensures.sum c.add_fault.ensures.refused;
       emptied = refused_empty (of g r.parser) (of g r'.parser) (standing r) (standing r') t l (room q) enough (waiting q) (waiting c.feed.new.queue) c.requires.empty c.in-Err.fault w;
       size = c.in-Err.ensures.size;
     }

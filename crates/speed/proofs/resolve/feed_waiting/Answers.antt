@@ -16,18 +16,18 @@ loop-lexeme-init g c = let r = c.args.resolver.now in (c.requires.empty, c.requi
 pub loop-lexeme-preserved : goal.loop-lexeme-preserved
 loop-lexeme-preserved g c =
     let i = c.loop-lexeme.invariant in
-    let e = c.feed-one.ensures in
+    let e = c.feed_one.ensures in
     (e.emptied, e.size ∙ i.1, c.in-Some.ensures.size ∙ i.2, sofar_more c.in-Some.lexeme i.3 c.in-Some.ensures.list e.within e.adds)
 
 pub returns : goal.returns
 returns g c =
     let i = c.loop-lexeme.invariant in
-    let e = c.in-default.ensures in
+    let e = c.in_default.ensures in
     record {
       within = i.3.within;
       adds = sofar_all i.3 e.list.0;
       taken = e.list.1;
       emptied = i.0;
-      read-size = e.size ∙ i.2;
+      read_size = e.size ∙ i.2;
       size = i.1 ∙ sym c.requires.places;
     }

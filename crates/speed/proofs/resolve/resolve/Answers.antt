@@ -24,16 +24,16 @@ conclude-requires g c =
     let z = c.begin.new.self in
     let calls = subst (λ (a : Result Ticket Fault). Calls (of g r.parser) (standing r) Begin (begin_answer a) [] (of g z.parser) (standing z)) c.unwrap-ticket.ensures c.begin.ensures in
     record {
-      sheet = c.feed-all-end.ensures.within.sheet ∙ begun_open (of g r.parser) (of g z.parser) (standing r) (standing z) c.unwrap-ticket.result.number [] calls;
-      empty = c.feed-all-end.ensures.emptied;
-      places = c.feed-all-end.ensures.size ∙ c.new-tokens.ensures.size;
+      sheet = c.feed_all-end.ensures.within.sheet ∙ begun_open (of g r.parser) (of g z.parser) (standing r) (standing z) c.unwrap-ticket.result.number [] calls;
+      empty = c.feed_all-end.ensures.emptied;
+      places = c.feed_all-end.ensures.size ∙ c.new-tokens.ensures.size;
     }
 
 pub returns : goal.returns
 returns g c =
     let r = c.args.resolver.now in
     let z = c.begin.new.self in
-    let y = c.feed-all-end.new.resolver in
+    let y = c.feed_all-end.new.resolver in
     let x = c.conclude.new.resolver in
     let calls = subst (λ (a : Result Ticket Fault). Calls (of g r.parser) (standing r) Begin (begin_answer a) [] (of g z.parser) (standing z)) c.unwrap-ticket.ensures c.begin.ensures in
-    resolved (of g r.parser) (of g z.parser) (of g y.parser) (standing r) (standing z) (standing y) (standing x) c.unwrap-ticket.result.number [] (readable c.args.text.now) c.feed-all-end.result (record { sum = 0; refused = false }) c.feed-all-end.new.tally c.conclude.result c.requires calls refl refl c.feed-all-end.ensures.adds c.feed-all-end.ensures.place c.conclude.ensures
+    resolved (of g r.parser) (of g z.parser) (of g y.parser) (standing r) (standing z) (standing y) (standing x) c.unwrap-ticket.result.number [] (readable c.args.text.now) c.feed_all-end.result (record { sum = 0; refused = false }) c.feed_all-end.new.tally c.conclude.result c.requires calls refl refl c.feed_all-end.ensures.adds c.feed_all-end.ensures.place c.conclude.ensures

@@ -1,7 +1,7 @@
 -- The sheet grammar's sets are exact: every member has a script that shows it, and the sets are closed, so that there
 -- are no other members.
 -- Assumes nothing.
-use Rattle.std.proofs.Common.{◌≡◌, ℕ, ◌-◌, ◌≤◌, Bool, true, false, ◌&&◌, eqb, leb, List, [], ◌∷◌, ◌++◌, Decides, sym, refl, subst, ⊎_elim, arith, eqb-true, le-leb, leb-true}
+use Rattle.std.proofs.Common.{◌≡◌, ℕ, ◌≤◌, Bool, true, false, ◌&&◌, eqb, leb, List, [], ◌∷◌, ◌++◌, Decides, sym, refl, subst, ⊎_elim, arith, eqb-true, le-leb, leb-true}
 use borrow.Author.Tests.{both_ways}
 use Rattle.std.proofs.lemmas.Bool.{and_parts, or_cases, cases_lt}
 use Rattle.grammar.specs.Grammar.{Derives, done, keep, replace, IsKind, IsNonterminal, Kinds, start, Nullable, CanBegin, CanFollow, among}

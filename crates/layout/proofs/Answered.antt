@@ -1,5 +1,5 @@
 -- The calls of a resolver are those of a service. Assumes nothing.
-use Rattle.std.proofs.Common.{◌≡◌, ℕ, ◌+◌, ◌^◌, ◌<◌, ◌≤◌, true, false, List, [], ◌∷◌, ◌++◌, length, is_some, Some, None, Ok, Err, Option, sym, refl, ap, ◌∙◌, subst, arith}
+use Rattle.std.proofs.Common.{◌≡◌, ℕ, ◌+◌, ◌^◌, ◌<◌, ◌≤◌, true, false, List, [], ◌++◌, length, is_some, Some, None, Ok, Err, Option, sym, refl, ap, ◌∙◌, subst, arith}
 use Rattle.std.proofs.lemmas.List.{append-nil}
 use Rattle.std.proofs.lemmas.Bool.{false≢true, true≢false}
 use Rattle.std.specs.Option.{SomeIff}
@@ -11,9 +11,8 @@ use Rattle.sheet.specs.declared.fault.Reason.TheVariants.{NumbersSpent, SheetOpe
 use Rattle.sheet.specs.declared.lexeme.Lexeme.{Lexeme}
 use Rattle.sheet.specs.declared.lexeme.Place.{Place}
 use Rattle.sheet.specs.declared.lexeme.Token.{Token}
-use Rattle.layout.specs.Calling.{Calls, Fed, Finished, Writes, anew, next_of, shut, standing}
+use Rattle.layout.specs.Calling.{Calls, Fed, Finished, Writes, next_of, shut, standing}
 use Rattle.layout.specs.Drafts.{drafted_tokens}
-use Rattle.layout.specs.Layout.{kinds}
 use Rattle.layout.specs.Moves.{Took}
 use Rattle.layout.specs.Service.{Does, State, begin_open, begin_spent, begins, fault, feed_fails, feeds, finish_fails, finishes, give_up_fails, gives_up}
 use Rattle.layout.specs.declared.call.Answer.{Answer}
@@ -21,7 +20,6 @@ use Rattle.layout.specs.declared.call.Answer.TheVariants.{Ticket as ticket, Coun
 use Rattle.layout.specs.declared.call.Call.TheVariants.{Begin as begin, Feed as feed, Finish as finish, GiveUp as give_up}
 use Rattle.layout.specs.declared.draft.Draft.{Draft}
 use Rattle.layout.specs.declared.resolver.Resolver.{Resolver}
-use Rattle.layout.specs.declared.rule.Before.{Before}
 use Rattle.layout.specs.declared.rule.Before.TheVariants.{Nothing}
 use Rattle.layout.specs.declared.rule.Coming.TheVariants.{Lexeme as lexeme, End as ending}
 use Rattle.layout.proofs.SameRuns.{does_same}

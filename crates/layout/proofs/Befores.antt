@@ -11,7 +11,7 @@ use Rattle.layout.specs.declared.rule.Before.{Before}
 use Rattle.layout.specs.declared.rule.Before.TheVariants.{Nothing, BlockKeyword, Other}
 use Rattle.layout.specs.declared.rule.Coming.TheVariants.{Lexeme as lexeme, End as ending}
 use Rattle.layout.specs.declared.rule.Mark.{Mark}
-use Rattle.layout.specs.declared.rule.Mark.TheVariants.{None, Line, Block}
+use Rattle.layout.specs.declared.rule.Mark.TheVariants.{None, Block}
 
 -- a number that is no kind is no block keyword
 pub after_no_kind : (n : ℕ) → ((k : Kind) → kind_number k ≡ n → ⊥) → Other ≡ after n

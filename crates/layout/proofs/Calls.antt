@@ -1,5 +1,5 @@
 -- The same calls over two languages with the same lists are answered alike. Assumes nothing.
-use Rattle.std.proofs.Common.{◌≡◌, ℕ, ◌+◌, ◌-◌, ◌<◌, ◌≤◌, List, [], ◌∷◌, ◌++◌, map, length, drop, is_some, is_ok, Some, None, Ok, Err, Option, Result, sym, refl, ap, ◌∙◌, subst, arith}
+use Rattle.std.proofs.Common.{◌≡◌, ℕ, ◌≤◌, List, [], ◌∷◌, ◌++◌, map, length, drop, is_some, is_ok, Some, None, Ok, Err, Option, Result, sym, refl, ap, ◌∙◌, subst, arith}
 use Rattle.std.proofs.lemmas.Bool.{false≢true, true≢false}
 use Rattle.parser.specs.Sets.{Lists, Same}
 use Rattle.sheet.specs.declared.fault.Reason.{Reason}
@@ -9,12 +9,10 @@ use Rattle.sheet.specs.declared.lexeme.Token.{Token}
 use Rattle.layout.specs.Layout.{kinds}
 use Rattle.layout.specs.Limits.{Laid, Runs}
 use Rattle.layout.specs.Marks.{after}
-use Rattle.layout.specs.Service.{Does, Event, FeedFails, Feeds, FinishFails, Finishes, Good, Run, State, bad_lexeme, begin_open, begin_spent, begins, fault, feed_fails, feeds, finish_fails, finishes, give_up_fails, gives_up, more, none}
+use Rattle.layout.specs.Service.{Does, Event, FeedFails, Feeds, FinishFails, Finishes, Good, Run, State, begin_open, begin_spent, begins, fault, feed_fails, feeds, finish_fails, finishes, give_up_fails, gives_up, more, none}
 use Rattle.layout.specs.declared.call.Answer.{Answer}
 use Rattle.layout.specs.declared.call.Answer.TheVariants.{Count as count, Refused as refused}
 use Rattle.layout.specs.declared.call.Call.{Call}
-use Rattle.layout.specs.declared.call.Call.TheVariants.{Begin as begin, Feed as feed, Finish as finish, GiveUp as give_up}
-use Rattle.layout.specs.Service as service
 use Rattle.layout.proofs.Determined.{runs_alike}
 
 -- what was laid

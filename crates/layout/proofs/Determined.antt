@@ -1,17 +1,13 @@
 -- Over two languages with the same lists, the rules and the calls come out the same. Assumes nothing.
-use Rattle.std.proofs.Common.{◌≡◌, ℕ, suc, ◌-◌, ◌<◌, List, [], ◌∷◌, ◌++◌, map, length, is_ok, Some, None, Ok, Err, Option, Result, sym, refl, ap, ◌∙◌, subst, arith}
+use Rattle.std.proofs.Common.{◌≡◌, ℕ, List, [], ◌∷◌, ◌++◌, map, length, is_ok, Ok, Err, Result, sym, refl, ap, ◌∙◌, subst, arith}
 use Rattle.std.proofs.lemmas.Bool.{false≢true, true≢false}
 use Rattle.parser.specs.Sets.{Lists, Same}
 use Rattle.sheet.specs.declared.fault.Reason.{Reason}
-use Rattle.sheet.specs.declared.lexeme.Token.{Token}
-use Rattle.layout.specs.Limits.{Goes, Laid, Runs, and_before, done, ends, goes, goes_on, is_undefined, not_viable, reach_spent, refuses, stops, too_deep, undefined_at, writes}
+use Rattle.layout.specs.Limits.{Goes, Laid, Runs, and_before, done, ends, goes, goes_on, is_undefined, not_viable, reach_spent, refuses, stops, too_deep, writes}
 use Rattle.layout.specs.Marks.{column, inserted, written}
 use Rattle.layout.specs.Rules.{Applies, MustClose, Viable, block_left_open, close_at_end, close_on_error, close_shallower, close_typed, drop_deeper, drop_outside, empty_block, end, inserts, leaves, onward, open_block, open_typed, separate, stray_close, write_lexeme}
 use Rattle.layout.specs.declared.rule.Coming.{Coming}
-use Rattle.layout.specs.declared.rule.Coming.TheVariants.{Lexeme as lexeme, End as ending}
 use Rattle.layout.specs.declared.rule.Mark.{Mark}
-use Rattle.layout.specs.declared.rule.Onward.{Onward}
-use Rattle.layout.specs.declared.rule.Onward.TheVariants.{Mark as at_mark, Lexeme as lexeme_written, End as ended, Undefined as undefined}
 use Rattle.layout.specs.declared.rule.Rule.{Rule}
 use Rattle.layout.proofs.Single.{mark_in, single_rule, way}
 

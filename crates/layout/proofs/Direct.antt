@@ -1,25 +1,21 @@
 -- A lexeme that has no mark and is no brace, taken at once. Assumes nothing.
-use Rattle.std.proofs.Common.{◌≡◌, ℕ, ◌-◌, ◌<◌, ◌≤◌, false, List, [], ◌∷◌, ◌++◌, length, replicate, None as nothing, Ok, Err, Result, sym, refl, ap, ◌∙◌, subst, arith}
+use Rattle.std.proofs.Common.{◌≡◌, ℕ, ◌<◌, ◌≤◌, false, List, [], ◌∷◌, ◌++◌, length, replicate, None as nothing, Ok, Err, sym, refl, ap, ◌∙◌, subst, arith}
 use Rattle.parser.specs.Meaning.{Alike, Meaning, taken}
-use Rattle.parser.specs.Sets.{Begins, Lists, Same}
-use Rattle.parser.proofs.Meanings.{same_trans}
+use Rattle.parser.specs.Sets.{Begins, Lists}
 use Rattle.sheet.specs.declared.fault.Reason.{Reason}
 use Rattle.sheet.specs.declared.fault.Reason.TheVariants.{NotViable, ReachSpent}
 use Rattle.sheet.specs.declared.lexeme.Lexeme.{Lexeme}
 use Rattle.layout.specs.Contexts.{Implicit, stack}
 use Rattle.layout.specs.Drafts.{Laying, contexts_of, if_set, not_viable, reach_spent, taken_on, tokens_of, with_opened}
 use Rattle.layout.specs.Drafts as drafts
-use Rattle.layout.specs.Limits.{Laid, Room}
+use Rattle.layout.specs.Limits.{Room}
 use Rattle.layout.specs.Moves.{Moves, Took, Tries}
 use Rattle.layout.specs.Rules.{MustClose, Plain, Viable, write_lexeme}
 use Rattle.layout.specs.declared.draft.Draft.{Draft}
-use Rattle.layout.specs.declared.rule.Coming.{Coming}
 use Rattle.layout.specs.declared.rule.Coming.TheVariants.{Lexeme as lexeme}
-use Rattle.layout.specs.declared.rule.Mark.{Mark}
 use Rattle.layout.specs.declared.rule.Mark.TheVariants.{None}
 use Rattle.layout.specs.declared.rule.Rule.TheVariants.{WriteLexeme}
 use Rattle.layout.proofs.Exits.{exit_refused, exit_written}
-use Rattle.layout.proofs.Moving.{tries_same}
 use Rattle.layout.proofs.Running.{Running, running_new}
 use Rattle.layout.proofs.Written.{count_lexeme}
 

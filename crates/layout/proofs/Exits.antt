@@ -1,5 +1,5 @@
 -- How the rules over what comes end. Assumes nothing.
-use Rattle.std.proofs.Common.{◌≡◌, ℕ, ◌≤◌, List, [], ◌∷◌, ◌++◌, map, length, Ok, Err, Result, sym, refl, ap, ◌∙◌, subst, arith}
+use Rattle.std.proofs.Common.{◌≡◌, ℕ, ◌≤◌, List, [], ◌∷◌, ◌++◌, map, length, Ok, Err, sym, refl, ap, ◌∙◌, subst, arith}
 use Rattle.std.proofs.lemmas.List.{append-nil, map-append}
 use Rattle.parser.specs.Meaning.{Alike, Meaning}
 use Rattle.parser.specs.Runs.{after}
@@ -11,7 +11,7 @@ use Rattle.sheet.specs.declared.lexeme.Place.{Place}
 use Rattle.sheet.specs.declared.lexeme.Token.{Token}
 use Rattle.layout.specs.Drafts.{Bound, Laying, Step, contexts_of, laid, stopped, tokens_of}
 use Rattle.layout.specs.Layout.{kinds}
-use Rattle.layout.specs.Limits.{Laid, done, ends, is_undefined, refuses, undefined_at, writes}
+use Rattle.layout.specs.Limits.{done, ends, is_undefined, refuses, undefined_at, writes}
 use Rattle.layout.specs.Marks.{column, inserted, kind, written}
 use Rattle.layout.specs.Rules.{Applies, block_left_open, close_at_end, close_on_error, close_shallower, close_typed, drop_deeper, drop_outside, empty_block, end, leaves, onward, open_block, open_typed, separate, stray_close, write_lexeme}
 use Rattle.layout.specs.declared.draft.Draft.{Draft}

@@ -1,6 +1,6 @@
 -- Inside the limits, a sheet is finished exactly when the rules turn it into a sentence. Assumes nothing.
-use Rattle.std.proofs.Common.{◌≡◌, ℕ, true, ◌⊎◌, List, [], ◌∷◌, ◌++◌, map, is_some, Some, None, Ok, Err, Option, sym, refl, ap, ◌∙◌, subst, inl, inr, ⊎_elim, arith}
-use Rattle.std.proofs.lemmas.List.{append_assoc, append-nil, map-append}
+use Rattle.std.proofs.Common.{◌≡◌, ℕ, true, ◌⊎◌, List, [], ◌∷◌, ◌++◌, is_some, Some, sym, refl, ap, ◌∙◌, subst, inl, inr, ⊎_elim}
+use Rattle.std.proofs.lemmas.List.{append-nil, map-append}
 use Rattle.std.proofs.lemmas.Bool.{false≢true}
 use Rattle.parser.specs.Sets.{Lists}
 use Rattle.sheet.specs.declared.fault.Reason.{Reason}
@@ -20,7 +20,7 @@ use Rattle.layout.specs.declared.call.Answer.{Answer}
 use Rattle.layout.specs.declared.call.Call.{Call}
 use Rattle.layout.specs.declared.call.Call.TheVariants.{Finish as finish}
 use Rattle.layout.proofs.Single.{single_step}
-use Rattle.layout.proofs.Sofar.{Rest, Sofar, end_limited, runs_lays, start, step, through, whole}
+use Rattle.layout.proofs.Sofar.{Sofar, end_limited, runs_lays, start, step, through, whole}
 
 module _ (G : Lists) (reach : ℕ) where
   -- while a sheet is open, its tokens are what the rules write of its lexemes, and the service stands where they do

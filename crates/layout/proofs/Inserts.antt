@@ -1,21 +1,19 @@
 -- Tokens inserted one after another. Assumes nothing.
-use Rattle.std.proofs.Common.{◌≡◌, ℕ, zero, suc, ◌+◌, ◌-◌, ◌<◌, ◌≤◌, Bool, true, false, not, List, [], ◌∷◌, ◌++◌, map, length, get_or, take, drop, replicate, Ok, Err, Result, sym, refl, ap, ◌∙◌, subst, arith, length-append}
+use Rattle.std.proofs.Common.{◌≡◌, ℕ, zero, suc, ◌+◌, ◌<◌, ◌≤◌, true, false, not, List, [], ◌∷◌, ◌++◌, map, length, get_or, take, drop, replicate, Ok, Err, Result, sym, refl, ap, ◌∙◌, subst, arith, length-append}
 use lib.ListN.{length-replicate}
 use Rattle.std.proofs.lemmas.List.{append_assoc, append-nil, drop_all, drop-map, drop_more, get_or-map, length-map, take_all, take_more}
 use Rattle.std.proofs.lemmas.Bool.{and_parts, not-true}
 use Rattle.parser.specs.Meaning.{Alike, Meaning, taken}
 use Rattle.parser.specs.Runs.{after}
-use Rattle.parser.specs.Sets.{Begins}
-use Rattle.parser.proofs.Meanings.{begins_same, mark_sym, mark_trans, same_sym, same_trans}
+use Rattle.parser.proofs.Meanings.{begins_same, mark_trans, same_sym, same_trans}
 use Rattle.parser.proofs.Steps.{after_more, after_none}
 use Rattle.sheet.specs.declared.fault.Reason.{Reason}
-use Rattle.sheet.specs.declared.fault.Reason.TheVariants.{TooDeep, NotViable, ReachSpent}
-use Rattle.layout.specs.Drafts.{AllClose, Bound, Inserted, Next, NextAll, Row, Step, drafted, if_set, is_separator, no_separator, not_viable, reach_spent, refused, taken_on, tokens_of, too_deep}
+use Rattle.sheet.specs.declared.fault.Reason.TheVariants.{ReachSpent}
+use Rattle.layout.specs.Drafts.{AllClose, Inserted, Next, NextAll, Row, Step, drafted, if_set, is_separator, no_separator, not_viable, reach_spent, refused, taken_on, tokens_of, too_deep}
 use Rattle.layout.specs.Limits.{Goes, done, goes, not_viable as goes_not_viable, reach_spent as goes_reach_spent, too_deep as goes_too_deep}
 use Rattle.layout.specs.Rules.{insert_kind}
 use Rattle.layout.specs.declared.draft.Draft.{Draft}
 use Rattle.layout.specs.declared.rule.Insert.{Insert}
-use Rattle.layout.specs.declared.rule.Insert.TheVariants.{Open, Close, Separator}
 
 -- a draft has no more closes than tokens
 pub closes_few : (d : Draft) → d.closes + d.closes_after ≤ length (tokens_of d)

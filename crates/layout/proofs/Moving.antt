@@ -1,17 +1,17 @@
 -- What comes is tried on a marked parser: accepted, refused, and taken back. Assumes nothing.
-use Rattle.std.proofs.Common.{◌≡◌, ℕ, ◌-◌, ◌<◌, ◌≤◌, List, [], ◌∷◌, ◌++◌, length, Ok, Err, Result, sym, refl, ap, ◌∙◌, subst, arith}
+use Rattle.std.proofs.Common.{◌≡◌, ℕ, ◌-◌, ◌<◌, ◌≤◌, List, [], ◌++◌, length, Ok, Err, Result, sym, ap, ◌∙◌, subst, arith}
 use Rattle.std.proofs.lemmas.List.{append-nil}
 use Rattle.parser.specs.Meaning.{Alike, Mark as Held, Meaning, SameMark, absent, holds, kept, marked, restored, returned}
 use Rattle.parser.specs.Runs.{after as after_kinds}
 use Rattle.parser.specs.Sets.{Lists, Same}
-use Rattle.parser.proofs.Meanings.{alike_trans, mark_trans, same_sym, same_trans}
+use Rattle.parser.proofs.Meanings.{mark_trans, same_sym, same_trans}
 use Rattle.sheet.specs.declared.fault.Reason.{Reason}
 use Rattle.sheet.specs.declared.fault.Reason.TheVariants.{NoRoom, NotComplete}
 use Rattle.layout.specs.Drafts.{Bound, Laying, drafted_tokens}
 use Rattle.layout.specs.Drafts as drafts
 use Rattle.layout.specs.Layout.{kinds}
-use Rattle.layout.specs.Limits.{Laid, Runs}
-use Rattle.layout.specs.Moves.{Attempts, Moves, Took, Tries, Whole, WholeAt}
+use Rattle.layout.specs.Limits.{Laid}
+use Rattle.layout.specs.Moves.{Attempts, Moves, Tries, Whole, WholeAt}
 use Rattle.layout.specs.declared.draft.Draft.{Draft}
 use Rattle.layout.specs.declared.rule.Coming.{Coming}
 use Rattle.layout.specs.declared.rule.Coming.TheVariants.{Lexeme as lexeme, End as ending}

@@ -1,5 +1,5 @@
 -- The rules on their way over what comes. Assumes nothing.
-use Rattle.std.proofs.Common.{◌≡◌, ℕ, ◌+◌, ◌-◌, ◌*◌, ◌<◌, ◌≤◌, Bool, true, false, ◌⊎◌, List, [], ◌∷◌, ◌++◌, map, length, replicate, is_some, None as none, Ok, Err, Result, sym, refl, ap, ◌∙◌, subst, inl, inr, ⊎_elim, arith, length-append}
+use Rattle.std.proofs.Common.{◌≡◌, ℕ, ◌+◌, ◌*◌, ◌<◌, ◌≤◌, Bool, true, false, ◌⊎◌, List, [], ◌∷◌, ◌++◌, map, length, replicate, is_some, None as none, Ok, Err, Result, sym, refl, ap, ◌∙◌, subst, inl, inr, ⊎_elim, arith, length-append}
 use Rattle.std.proofs.lemmas.List.{append_assoc, append-nil, map-append}
 use Rattle.std.proofs.lemmas.Bool.{cases_Bool, false≢true, true≢false}
 use Rattle.parser.specs.Meaning.{Alike, Meaning}
@@ -8,16 +8,14 @@ use Rattle.parser.specs.Sets.{Lists}
 use Rattle.parser.proofs.Meanings.{alike_sym, alike_trans, mark_trans, same_trans}
 use Rattle.parser.proofs.Steps.{after_none}
 use Rattle.sheet.specs.declared.fault.Reason.{Reason}
-use Rattle.sheet.specs.declared.lexeme.Lexeme.{Lexeme}
 use Rattle.sheet.specs.declared.lexeme.Token.{Token}
 use Rattle.layout.specs.Contexts.{stack}
-use Rattle.layout.specs.Drafts.{Bound, Inserted, Laying, NextAll, Row, contexts_of, drafted, if_set, laid, no_separator, refused, stopped, tokens_of, with_opened}
-use Rattle.layout.specs.Limits.{Goes, Laid, Runs, and_before, goes_on, stops, undefined_at}
+use Rattle.layout.specs.Drafts.{Bound, Inserted, Laying, NextAll, Row, contexts_of, drafted, if_set, no_separator, refused, stopped, tokens_of, with_opened}
+use Rattle.layout.specs.Limits.{Goes, Laid, Runs, and_before, goes_on, stops}
 use Rattle.layout.specs.Marks.{Fitting, column, inserted, kind}
 use Rattle.layout.specs.Rules.{Applies, block_left_open, close_at_end, close_on_error, close_shallower, close_typed, drop_deeper, drop_outside, empty_block, end, inserting, inserts, insert_kind, leaves, onward, open_block, open_typed, opening, separate, stray_close, write_lexeme}
 use Rattle.layout.specs.declared.draft.Draft.{Draft}
 use Rattle.layout.specs.declared.rule.Coming.{Coming}
-use Rattle.layout.specs.declared.rule.Coming.TheVariants.{Lexeme as lexeme, End as ending}
 use Rattle.layout.specs.declared.rule.Mark.{Mark}
 use Rattle.layout.specs.declared.rule.Mark.TheVariants.{None, Line, Block}
 use Rattle.layout.specs.declared.rule.Onward.{Onward}

@@ -1,21 +1,18 @@
 -- The rules are single-valued: where two apply, they are one. Assumes nothing.
-use Rattle.std.proofs.Common.{◌≡◌, ℕ, ◌<◌, List, [], ◌∷◌, ◌++◌, map, sym, refl, ap, ◌∙◌, subst, arith}
+use Rattle.std.proofs.Common.{◌≡◌, ℕ, List, ◌++◌, map, sym, refl, ap, ◌∙◌, subst, arith}
 use Rattle.parser.specs.Sets.{Lists}
 use Rattle.sheet.specs.declared.lexeme.Lexeme.{Lexeme}
 use Rattle.sheet.specs.declared.lexeme.Place.{Place}
 use Rattle.sheet.specs.declared.lexeme.Token.{Token}
 use Rattle.layout.specs.Layout.{Lays, Resolves, at_end, at_lexeme, ends, goes_on, kinds, writes}
-use Rattle.layout.specs.Marks.{after, column, end_mark, inserted, mark_of, written}
-use Rattle.layout.specs.Rules.{Applies, Explicit, MustClose, Plain, block_left_open, close_at_end, close_on_error, close_shallower, close_typed, drop_deeper, drop_outside, empty_block, end, inserts, leaves, onward, open_block, open_typed, separate, stray_close, write_lexeme}
+use Rattle.layout.specs.Marks.{after, column, inserted}
+use Rattle.layout.specs.Rules.{Applies, block_left_open, close_at_end, close_on_error, close_shallower, close_typed, drop_deeper, drop_outside, empty_block, end, inserts, leaves, onward, open_block, open_typed, separate, stray_close, write_lexeme}
 use Rattle.layout.specs.declared.rule.Before.{Before}
 use Rattle.layout.specs.declared.rule.Coming.{Coming}
-use Rattle.layout.specs.declared.rule.Coming.TheVariants.{Lexeme as lexeme, End as ending}
 use Rattle.layout.specs.declared.rule.Mark.{Mark}
-use Rattle.layout.specs.declared.rule.Mark.TheVariants.{None, Line, Block}
 use Rattle.layout.specs.declared.rule.Onward.{Onward}
 use Rattle.layout.specs.declared.rule.Onward.TheVariants.{Mark as at_mark, Lexeme as lexeme_written, End as ended, Undefined as undefined}
 use Rattle.layout.specs.declared.rule.Rule.{Rule}
-use Rattle.layout.specs.declared.rule.Rule.TheVariants.{Separate, CloseShallower, DropMark, OpenBlock, EmptyBlock, CloseTyped, StrayClose, OpenTyped, CloseOnError, WriteLexeme, CloseAtEnd, End, BlockLeftOpen}
 
 module _ (G : Lists) (u : List ℕ) where
   -- one rule at most applies

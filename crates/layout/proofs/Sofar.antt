@@ -1,6 +1,6 @@
 -- The rules lexeme by lexeme agree with the rules over the whole sheet. Assumes nothing.
 use Rattle.std.proofs.Common.{◌≡◌, ℕ, true, ◌⊎◌, List, [], ◌∷◌, ◌++◌, map, length, is_ok, Ok, Err, Result, sym, refl, ap, ◌∙◌, subst, inl, inr, arith}
-use Rattle.std.proofs.lemmas.List.{append_assoc, append-nil, map-append}
+use Rattle.std.proofs.lemmas.List.{append_assoc, map-append}
 use Rattle.std.proofs.lemmas.Bool.{false≢true, true≢false}
 use Rattle.parser.specs.Sets.{Lists}
 use Rattle.sheet.specs.declared.fault.Reason.{Reason}
@@ -11,15 +11,13 @@ use Rattle.sheet.specs.declared.lexeme.Token.{Token}
 use Rattle.layout.specs.Layout.{Lays, Resolves, at_end, at_lexeme, kinds}
 use Rattle.layout.specs.Layout as layout
 use Rattle.layout.specs.Limits.{Goes, Laid, Runs, and_before}
-use Rattle.layout.specs.Limits as limits
-use Rattle.layout.specs.Marks.{after, column, end_mark, inserted, mark_of}
-use Rattle.layout.specs.Rules.{Applies, inserts, leaves, onward}
+use Rattle.layout.specs.Marks.{after, column, inserted, mark_of}
+use Rattle.layout.specs.Rules.{inserts, leaves, onward}
 use Rattle.layout.specs.declared.rule.Before.{Before}
 use Rattle.layout.specs.declared.rule.Before.TheVariants.{Nothing}
 use Rattle.layout.specs.declared.rule.Coming.{Coming}
 use Rattle.layout.specs.declared.rule.Coming.TheVariants.{Lexeme as lexeme, End as ending}
 use Rattle.layout.specs.declared.rule.Mark.{Mark}
-use Rattle.layout.specs.declared.rule.Rule.{Rule}
 use Rattle.layout.proofs.Exits.{kinds_inserted}
 use Rattle.layout.proofs.Single.{mark_in, single_rule, single_step, way}
 

@@ -1,5 +1,5 @@
 -- A run on a resolver is a run of the service over its parser's language. Assumes nothing.
-use Rattle.std.proofs.Common.{◌≡◌, ℕ, ◌-◌, ◌<◌, ◌≤◌, List, [], ◌∷◌, ◌++◌, map, length, Result, sym, refl, ap, ◌∙◌, subst, arith, length-append}
+use Rattle.std.proofs.Common.{◌≡◌, ℕ, ◌-◌, List, [], ◌++◌, length, Result, sym, refl, ap, ◌∙◌, subst, arith, length-append}
 use Rattle.std.proofs.lemmas.List.{append_assoc, append-nil}
 use Rattle.parser.specs.Meaning.{Meaning, started}
 use Rattle.parser.specs.Sets.{Lists, Same}
@@ -9,10 +9,9 @@ use Rattle.sheet.specs.declared.lexeme.Lexeme.{Lexeme}
 use Rattle.sheet.specs.declared.lexeme.Place.{Place}
 use Rattle.sheet.specs.declared.lexeme.Token.{Token}
 use Rattle.layout.specs.Calling.{Calls, anew, from}
-use Rattle.layout.specs.Layout.{kinds}
 use Rattle.layout.specs.Limits.{Laid, Runs}
 use Rattle.layout.specs.Moves.{Took}
-use Rattle.layout.specs.Service.{Does, FeedFails, FinishFails, Run, State, begin_open, begin_spent, begins, feed_fails, feeds, finish_fails, finishes, give_up_fails, gives_up, new}
+use Rattle.layout.specs.Service.{Does, FeedFails, FinishFails, State, begin_open, begin_spent, begins, feed_fails, feeds, finish_fails, finishes, give_up_fails, gives_up, new}
 use Rattle.layout.specs.declared.call.Answer.{Answer}
 use Rattle.layout.specs.declared.call.Answer.TheVariants.{Ticket as ticket, Count as count, Closed as closed, Refused as refused}
 use Rattle.layout.specs.declared.call.Call.{Call}

@@ -1,13 +1,12 @@
 -- The tokens of a draft, counted and written one after another. Assumes nothing.
-use Rattle.std.proofs.Common.{◌≡◌, ℕ, zero, suc, ◌+◌, ◌-◌, ◌<◌, ◌≤◌, Bool, true, false, List, [], ◌∷◌, ◌++◌, map, length, replicate, sym, refl, ap, ◌∙◌, subst, arith, length-append}
+use Rattle.std.proofs.Common.{◌≡◌, ℕ, ◌+◌, ◌≤◌, Bool, true, false, List, [], ◌∷◌, ◌++◌, map, length, replicate, sym, refl, ap, ◌∙◌, subst, arith, length-append}
 use lib.LanesLaws.{map-replicate}
 use lib.ListN.{length-replicate}
 use mir.Val.{bool_byte}
-use Rattle.std.proofs.lemmas.List.{append_assoc, append-nil, length-map, map-append}
+use Rattle.std.proofs.lemmas.List.{append_assoc, length-map, map-append}
 use Rattle.std.proofs.lemmas.Bool.{false≢true, true≢false}
 use Rattle.sheet.specs.declared.lexeme.Lexeme.{Lexeme}
 use Rattle.sheet.specs.declared.lexeme.Place.{Place}
-use Rattle.sheet.specs.declared.lexeme.Token.{Token}
 use Rattle.layout.specs.Drafts.{drafted_tokens, if_set, tokens_of}
 use Rattle.layout.specs.Marks.{inserted, is_end, written}
 use Rattle.layout.specs.declared.draft.Draft.{Draft}

@@ -1,5 +1,5 @@
 -- What a call would leave, as the code keeps it. Assumes nothing.
-use Rattle.std.specs.Prelude.{◌≡◌, ℕ, zero, suc, ◌+◌, ◌-◌, ◌<◌, ◌≤◌, Bool, true, false, not, ◌&&◌, List, [], ◌∷◌, ◌++◌, map, length, get_or, replicate, Some, None, Ok, Err, Option, Result}
+use Rattle.std.specs.Prelude.{◌≡◌, ℕ, ◌<◌, ◌≤◌, Bool, true, false, not, ◌&&◌, List, [], ◌∷◌, ◌++◌, map, length, replicate, Some, None, Ok, Err, Option, Result}
 use Rattle.parser.specs.Meaning.{Alike, Meaning, SameMark, taken}
 use Rattle.parser.specs.Runs.{after}
 use Rattle.parser.specs.Sets.{Begins, Same}

@@ -1,5 +1,5 @@
 -- The shape of what is written: braces within the depth limit, and a { first and after each block keyword. Assumes nothing.
-use Rattle.std.specs.Prelude.{◌≡◌, ℕ, suc, ◌<◌, ◌≤◌, Bool, true, false, List, [], ◌∷◌, ◌≢◌}
+use Rattle.std.specs.Prelude.{ℕ, suc, ◌<◌, ◌≤◌, Bool, false, List, [], ◌∷◌, ◌≢◌}
 use Rattle.layout.specs.Marks.{opens_block}
 
 -- from a depth and a flag that a { is due, kinds lead to another depth and flag

@@ -1,5 +1,5 @@
 -- A text from item to item, and what follows of the items' order. Assumes nothing.
-use Rattle.std.proofs.Common.{◌≡◌, ℕ, zero, suc, ◌+◌, ◌-◌, ◌<◌, ◌≤◌, Bool, true, false, cond, eqb, ltb, ◌⊎◌, List, [], ◌∷◌, ◌++◌, length, drop, Result, sym, refl, ap, ◌∙◌, subst, inl, inr, ⊎_elim, arith, length-drop}
+use Rattle.std.proofs.Common.{◌≡◌, ℕ, zero, suc, ◌+◌, ◌<◌, ◌≤◌, Bool, true, false, eqb, ltb, ◌⊎◌, List, [], ◌∷◌, ◌++◌, length, drop, Result, sym, refl, ap, ◌∙◌, subst, inl, inr, ⊎_elim, arith, length-drop}
 use Rattle.std.proofs.lemmas.List.{drop_more}
 use Rattle.std.proofs.lemmas.Bool.{cases_lt, cond_both, true≢false}
 use Rattle.sheet.specs.declared.fault.Fault.{Fault}
@@ -7,7 +7,7 @@ use Rattle.sheet.specs.declared.fault.Reason.TheVariants.{UnreadableByte}
 use Rattle.sheet.specs.declared.lexeme.Kind.{Kind}
 use Rattle.sheet.specs.declared.lexeme.Lexeme.{Lexeme}
 use Rattle.reader.specs.Classes.{class, in_digits, in_name, is_gap}
-use Rattle.reader.specs.Items.{Item, good, bad, extent, fault_at, here, item_of, items, judged, spot}
+use Rattle.reader.specs.Items.{Item, bad, extent, fault_at, here, item_of, items, judged, spot}
 use Rattle.reader.specs.Laws.{Ordered, Taken, begins, takes}
 use Rattle.reader.specs.Places.{byte}
 use Rattle.reader.specs.Runs.{Front, fraction, front, front_by, fronts, gap, number_length, point_and, run, stray}

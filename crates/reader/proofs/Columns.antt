@@ -1,10 +1,10 @@
 -- Columns and flags are counted from the start of the line. Assumes nothing.
-use Rattle.std.proofs.Common.{◌≡◌, ℕ, zero, suc, ◌+◌, ◌-◌, ◌<◌, ◌≤◌, Bool, true, false, cond, ◌&&◌, ◌||◌, ◌⊎◌, List, [], ◌∷◌, ◌++◌, length, drop, sym, refl, ap, ◌∙◌, subst, inl, inr, ⊎_elim, arith, length-drop}
+use Rattle.std.proofs.Common.{◌≡◌, ℕ, zero, suc, ◌+◌, ◌-◌, ◌<◌, ◌≤◌, Bool, true, false, ◌&&◌, ◌||◌, List, [], ◌∷◌, ◌++◌, length, drop, sym, refl, ap, ◌∙◌, subst, inl, inr, ⊎_elim, arith, length-drop}
 use Rattle.std.proofs.lemmas.List.{get_or-drop, take_more}
 use Rattle.std.proofs.lemmas.Bool.{and_cases, and_parts, cases_lt, cond-true, cond-false, or_left, true≢false}
 use Rattle.reader.specs.Classes.{blank, class, line_end}
-use Rattle.reader.specs.Laws.{Counted, Starts, counted}
-use Rattle.reader.specs.Places.{byte, column_at, first_at, next_column}
+use Rattle.reader.specs.Laws.{Counted, counted}
+use Rattle.reader.specs.Places.{byte, first_at, next_column}
 use Rattle.reader.specs.Spelling.{part}
 
 -- one byte more

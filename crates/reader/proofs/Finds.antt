@@ -1,5 +1,5 @@
 -- What stands at a cursor is what the text has there. Assumes nothing.
-use Rattle.std.proofs.Common.{◌≡◌, ℕ, ◌+◌, ◌-◌, ◌<◌, ◌≤◌, false, ltb, List, [], ◌∷◌, ◌++◌, length, drop, Result, sym, refl, ap, ◌∙◌, subst, arith}
+use Rattle.std.proofs.Common.{◌≡◌, ℕ, ◌+◌, ◌<◌, ◌≤◌, false, ltb, List, [], ◌∷◌, ◌++◌, length, drop, Result, sym, refl, ap, ◌∙◌, subst, arith}
 use Rattle.std.proofs.lemmas.List.{drop_all, drop_more, get_or-drop}
 use Rattle.std.proofs.lemmas.Bool.{cond_both}
 use Rattle.sheet.specs.declared.fault.Fault.{Fault}
@@ -12,7 +12,6 @@ use Rattle.reader.specs.Items.{extent, here, item_of, items, items_from, judged,
 use Rattle.reader.specs.Places.{byte}
 use Rattle.reader.specs.Runs.{Front, front}
 use Rattle.reader.specs.declared.cursor.Cursor.{Cursor}
-use Rattle.reader.specs.declared.item.Found.{Found}
 use Rattle.reader.proofs.Places.{placed_run}
 use Rattle.reader.proofs.Solid.{SolidFront, front_solid}
 use Rattle.reader.proofs.Steps.{items_front}

@@ -1,12 +1,11 @@
 -- Where a byte leads: the line, the column and the flag after it. Assumes nothing.
-use Rattle.std.proofs.Common.{◌≡◌, ℕ, zero, suc, ◌+◌, ◌-◌, ◌*◌, ◌%◌, ◌<◌, ◌≤◌, Bool, true, false, cond, not, ◌&&◌, ◌||◌, eqb, List, length, drop, sym, refl, ap, ◌∙◌, subst, ⊎_elim, add-zero, add-suc, add-one, arith}
+use Rattle.std.proofs.Common.{◌≡◌, ℕ, zero, suc, ◌+◌, ◌*◌, ◌<◌, ◌≤◌, true, false, ◌&&◌, eqb, List, length, drop, sym, refl, ap, ◌∙◌, ⊎_elim, add-zero, add-suc, add-one, arith}
 use Rattle.std.proofs.lemmas.List.{get_or-drop, get_or_past}
 use Rattle.std.proofs.lemmas.Bool.{false≢true, cond-true, cond-false, cond_both, ne_eqb, and_left, and_right, and_from, and_parts, or_left, or_from, or_parts, not_from_false, not_from_true, eqb-true, cases_lt}
 use Rattle.reader.specs.Classes.{class, blank, is_gap, line_end}
 use Rattle.reader.specs.Cursors.{Placed}
 use Rattle.reader.specs.Places.{byte, crlf, ends_line, next_column, line_at, column_at, first_at}
-use Rattle.reader.specs.declared.class.Class.{Class}
-use Rattle.reader.specs.declared.class.Class.TheVariants.{Blank, LineEnd}
+use Rattle.reader.specs.declared.class.Class.TheVariants.{Blank}
 use Rattle.reader.specs.declared.cursor.Cursor.{Cursor}
 
 -- a byte leads at least one column on, and at most eight

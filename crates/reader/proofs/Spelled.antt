@@ -1,12 +1,12 @@
 -- The run at the front is the longest lexeme there. Assumes nothing.
-use Rattle.std.proofs.Common.{◌≡◌, ℕ, zero, suc, ◌+◌, ◌-◌, ◌<◌, ◌≤◌, Bool, true, false, cond, eqb, List, [], ◌∷◌, ◌++◌, length, take, drop, sym, refl, ap, ◌∙◌, subst, append_assoc, arith, length-append, length-drop, take-append-drop, length-take, take-add}
+use Rattle.std.proofs.Common.{◌≡◌, ℕ, zero, suc, ◌+◌, ◌<◌, ◌≤◌, Bool, true, false, cond, eqb, List, [], ◌∷◌, ◌++◌, length, take, drop, sym, refl, ap, ◌∙◌, subst, append_assoc, arith, length-append, take-append-drop, take-add}
 use Rattle.std.proofs.lemmas.List.{append-nil, drop_at, length-take-le}
 use Rattle.std.proofs.lemmas.Bool.{cond-true, cond-false, eqb-true, false≢true, true≢false}
 use Rattle.sheet.specs.declared.lexeme.Kind.{Kind}
 use Rattle.sheet.specs.declared.lexeme.Kind.TheVariants.{Name, Number}
 use Rattle.reader.specs.Classes.{class, in_digits, in_name, is_gap}
 use Rattle.reader.specs.Places.{byte}
-use Rattle.reader.specs.Runs.{Front, fraction, front, front_by, fronts, number_length, point_and, run, stray, word_kind}
+use Rattle.reader.specs.Runs.{fraction, front_by, fronts, number_length, point_and, run, stray, word_kind}
 use Rattle.reader.specs.Spelling.{All, Digits, Spells, name, whole, pointed, sign}
 use Rattle.reader.specs.declared.class.Class.{Class}
 use Rattle.reader.specs.declared.class.Class.TheVariants.{Blank, LineEnd, Letter, Digit, Apostrophe, Point, Sign, Unreadable}

@@ -1,12 +1,12 @@
 -- One step of the reader: what a byte leaves of the items, and where it leads. Assumes nothing.
-use Rattle.std.proofs.Common.{◌≡◌, ℕ, zero, suc, ◌+◌, ◌-◌, ◌*◌, ◌<◌, ◌≤◌, Bool, true, false, cond, not, ◌&&◌, ◌||◌, eqb, List, [], ◌∷◌, ◌++◌, length, drop, sym, refl, ap, ◌∙◌, subst, add-zero, add-suc, suc-add, add-one, arith}
+use Rattle.std.proofs.Common.{◌≡◌, ℕ, zero, suc, ◌+◌, ◌-◌, ◌<◌, ◌≤◌, Bool, true, false, eqb, List, [], ◌∷◌, ◌++◌, length, drop, sym, refl, ap, ◌∙◌, subst, add-zero, add-suc, suc-add, add-one, arith}
 use Rattle.std.proofs.lemmas.List.{drop_more, drop-drop}
 use Rattle.std.proofs.lemmas.Bool.{false≢true, and_right, or_right, cond-true, cond-false}
 use Rattle.std.proofs.lemmas.Bool.Decides.{nat_tests}
 use Rattle.reader.specs.Classes.{class, is_gap, blank, line_end}
 use Rattle.reader.specs.Cursors.{Placed, Passed}
 use Rattle.reader.specs.Items.{here, extent, items, items_from}
-use Rattle.reader.specs.Places.{byte, crlf, line_end_length, short_line_end_length, ends_line, next_column, line_at, column_at, first_at}
+use Rattle.reader.specs.Places.{byte, crlf, line_end_length, short_line_end_length, next_column}
 use Rattle.reader.specs.Runs.{Front, front, front_by, gap}
 use Rattle.reader.specs.declared.cursor.Cursor.{Cursor}
 use Rattle.reader.proofs.Places.{carriage_return, first_byte, line_end_inside, placed_blank, placed_line, placed_crlf}

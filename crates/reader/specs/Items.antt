@@ -1,5 +1,5 @@
 -- The items of a text, its lexemes and its faults in their order, and what one reading does with them. Assumes nothing.
-use Rattle.std.specs.Prelude.{ℕ, zero, suc, ◌+◌, ◌-◌, cond, List, [], ◌∷◌, ◌++◌, length, drop, None, Ok, Err, Result, nat_lt}
+use Rattle.std.specs.Prelude.{ℕ, zero, suc, ◌-◌, cond, List, [], ◌∷◌, ◌++◌, drop, None, Ok, Err, Result, nat_lt}
 use Rattle.sheet.specs.Kinds.{kind_number}
 use Rattle.sheet.specs.declared.fault.Fault.{Fault}
 use Rattle.sheet.specs.declared.fault.Reason.{Reason}

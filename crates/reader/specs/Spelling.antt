@@ -1,5 +1,5 @@
 -- How lexemes are spelled, and the longest one at an offset. Assumes nothing.
-use Rattle.std.specs.Prelude.{◌≡◌, ℕ, ◌+◌, ◌<◌, ◌≤◌, Bool, true, false, ◌⊎◌, List, [], ◌∷◌, ◌++◌, length, take, drop}
+use Rattle.std.specs.Prelude.{◌≡◌, ℕ, ◌+◌, ◌<◌, ◌≤◌, Bool, true, false, List, [], ◌∷◌, ◌++◌, length, take, drop}
 use Rattle.sheet.specs.declared.lexeme.Kind.{Kind}
 use Rattle.sheet.specs.declared.lexeme.Kind.TheVariants.{Number}
 use Rattle.reader.specs.Classes.{class, in_digits, in_name, is_gap}

@@ -1,5 +1,5 @@
 -- The end of a sheet, and a whole sheet, added up. Assumes nothing.
-use Rattle.std.proofs.Common.{◌≡◌, ℕ, ◌+◌, ◌-◌, ◌%◌, ◌^◌, ◌<◌, ◌≤◌, Bool, true, false, cond, List, [], ◌∷◌, ◌++◌, length, take, is_ok, Some, None, Ok, Err, sum_by, Option, Result, sym, refl, ap, ◌∙◌, subst, zero-add, arith}
+use Rattle.std.proofs.Common.{◌≡◌, ℕ, ◌+◌, ◌-◌, ◌%◌, ◌^◌, Bool, true, false, cond, List, [], ◌∷◌, ◌++◌, length, take, is_ok, Some, None, Ok, Err, sum_by, Result, sym, refl, ap, ◌∙◌, subst, zero-add, arith}
 use Rattle.std.proofs.lemmas.List.{append-nil}
 use Rattle.parser.specs.Meaning.{Meaning}
 use Rattle.parser.specs.Sets.{Lists}
@@ -14,7 +14,7 @@ use Rattle.layout.specs.declared.ticket.Ticket.{Ticket}
 use Rattle.whole.specs.Whole.{Ends, Feeding, end_of, given_up, most_faults, places, told}
 use Rattle.whole.proofs.Behind.{behind, ends_behind, feeding_behind}
 use Rattle.whole.proofs.Endings.{ended_finished, ended_unfinished}
-use Rattle.speed.specs.Resolved.{Resolved, all_faults, all_tokens, fault_weight, token_weight, worth}
+use Rattle.speed.specs.Resolved.{Resolved, all_faults, all_tokens, token_weight, worth}
 use Rattle.speed.specs.Sums.{weight}
 use Rattle.speed.specs.Tallies.{Adds, Closes, EndsWith, some}
 use Rattle.speed.specs.declared.resolve.Tally.{Tally}

@@ -1,5 +1,5 @@
 -- A number made of all lexemes and faults of a text. Assumes nothing.
-use Rattle.std.specs.Prelude.{ℕ, ◌+◌, ◌%◌, ◌^◌, Bool, cond, List, [], map, length, Ok, Err, sum_by, Result, nat_le}
+use Rattle.std.specs.Prelude.{ℕ, ◌+◌, ◌%◌, ◌^◌, cond, List, [], map, length, Ok, Err, sum_by, Result, nat_le}
 use Rattle.sheet.specs.Faults.{known}
 use Rattle.sheet.specs.declared.fault.Fault.{Fault}
 use Rattle.sheet.specs.declared.lexeme.Lexeme.{Lexeme}

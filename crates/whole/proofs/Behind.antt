@@ -1,5 +1,5 @@
 -- Lexemes that are fed where a parser stands are fed after what it took. Assumes nothing.
-use Rattle.std.proofs.Common.{◌≡◌, ℕ, ◌-◌, ◌<◌, ◌≤◌, List, [], ◌∷◌, ◌++◌, length, None, Ok, Err, Result, sym, refl, ap, ◌∙◌, subst, arith, length-append}
+use Rattle.std.proofs.Common.{◌≡◌, ℕ, ◌-◌, List, [], ◌∷◌, ◌++◌, length, None, Ok, Result, sym, subst, arith, length-append}
 use Rattle.std.proofs.lemmas.List.{append_assoc}
 use Rattle.parser.specs.Sets.{Lists, Same}
 use Rattle.sheet.specs.declared.fault.Fault.{Fault}

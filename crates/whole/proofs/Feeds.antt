@@ -1,8 +1,8 @@
 -- What a text tells, fed on a resolver. Assumes nothing.
-use Rattle.std.proofs.Common.{◌≡◌, ℕ, ◌-◌, ◌<◌, ◌≤◌, List, [], ◌∷◌, ◌++◌, map, length, take, Ok, Err, Result, sym, refl, ap, ◌∙◌, subst, arith, length-append}
+use Rattle.std.proofs.Common.{◌≡◌, ℕ, ◌≤◌, List, [], ◌∷◌, ◌++◌, map, length, take, Ok, Err, Result, sym, refl, ap, ◌∙◌, subst, arith, length-append}
 use Rattle.std.proofs.lemmas.List.{append_assoc, append-nil, map-append}
 use Rattle.parser.specs.Meaning.{Meaning}
-use Rattle.parser.specs.Sets.{Lists, Same}
+use Rattle.parser.specs.Sets.{Lists}
 use Rattle.parser.proofs.Meanings.{same_trans}
 use Rattle.sheet.specs.declared.fault.Fault.{Fault}
 use Rattle.sheet.specs.declared.lexeme.Lexeme.{Lexeme}

@@ -1,5 +1,5 @@
 -- A whole sheet over the language of a resolver's parser, and its law. Assumes nothing.
-use Rattle.std.proofs.Common.{◌≡◌, ℕ, ◌-◌, ◌^◌, ◌<◌, ◌≤◌, List, [], ◌∷◌, ◌++◌, map, length, Some, None, Ok, Err, Result, sym, refl, ap, ◌∙◌, subst, arith}
+use Rattle.std.proofs.Common.{◌≡◌, ℕ, ◌-◌, List, [], ◌∷◌, ◌++◌, map, length, Some, None, Ok, Err, Result, sym, refl, ap, ◌∙◌, subst, arith}
 use Rattle.std.proofs.lemmas.List.{append_assoc, append-nil}
 use Rattle.parser.specs.Meaning.{Meaning}
 use Rattle.parser.specs.Sets.{Lists}
@@ -10,14 +10,14 @@ use Rattle.sheet.specs.declared.lexeme.Token.{Token}
 use Rattle.layout.specs.Calling.{Calls, anew}
 use Rattle.layout.specs.Law.{Sheet, since_begin}
 use Rattle.layout.specs.Layout.{Turns, kinds}
-use Rattle.layout.specs.Service.{Does, Event, Run, State, begin_open, begin_spent, begins, feed_fails, feeds, more, none as no_call, new}
+use Rattle.layout.specs.Service.{Does, Event, Run, State, begin_open, begin_spent, begins, feed_fails, feeds, more, none as no_call}
 use Rattle.layout.specs.declared.call.Answer.{Answer}
 use Rattle.layout.specs.declared.call.Answer.TheVariants.{Ticket as ticket, Count as count, Refused as refused}
 use Rattle.layout.specs.declared.call.Call.TheVariants.{Begin as begin, Feed as feed, Finish as finish}
 use Rattle.layout.proofs.Finish.{finish_law}
 use Rattle.layout.proofs.Single.{single_sheet}
-use Rattle.whole.specs.Feeding.{Comes, Ran, SameParser, Shut}
-use Rattle.whole.specs.Whole.{Ends, Feeding, Lawful, Sound, Whole, begun, end_of, fault_of, fed, finished, given_up, none, not_begun, places, told, unfinished, unread}
+use Rattle.whole.specs.Feeding.{Comes, Ran, SameParser}
+use Rattle.whole.specs.Whole.{Feeding, Lawful, Sound, Whole, begun, end_of, fault_of, fed, finished, none, not_begun, places, told, unread}
 use Rattle.whole.proofs.Behind.{ends_behind, feeding_behind}
 use Rattle.whole.proofs.Feeds.{fed_sheet}
 

@@ -1,5 +1,5 @@
 -- A whole sheet as the code makes it: from where a resolver stands to where it then stands. Assumes nothing.
-use Rattle.std.specs.Prelude.{◌≡◌, ℕ, ◌<◌, ◌≤◌, List, [], ◌∷◌, ◌++◌, length, take, Some, None, Result}
+use Rattle.std.specs.Prelude.{◌≡◌, ℕ, ◌<◌, ◌≤◌, List, [], ◌∷◌, ◌++◌, length, take, None, Result}
 use Rattle.parser.specs.Meaning.{Meaning}
 use Rattle.parser.specs.Sets.{Same}
 use Rattle.sheet.specs.declared.fault.Fault.{Fault}
@@ -8,16 +8,13 @@ use Rattle.sheet.specs.declared.lexeme.Place.{Place}
 use Rattle.sheet.specs.declared.lexeme.Token.{Token}
 use Rattle.reader.specs.declared.stop.Stop.{Stop}
 use Rattle.reader.specs.declared.stop.Stop.TheVariants.{Fault as at_fault, Full as at_full}
-use Rattle.layout.specs.Calling.{Calls, anew, standing}
+use Rattle.layout.specs.Calling.{anew}
 use Rattle.layout.specs.Moves.{Took}
 use Rattle.layout.specs.Service.{State}
-use Rattle.layout.specs.declared.call.Answer.TheVariants.{Closed as closed}
-use Rattle.layout.specs.declared.call.Call.TheVariants.{GiveUp as give_up}
 use Rattle.layout.specs.declared.resolver.Resolver.{Resolver}
-use Rattle.whole.specs.Whole.{Ends, Feeding, Whole, end_of, most_faults, outcome, places, told}
+use Rattle.whole.specs.Whole.{Ends, Feeding, Whole, end_of, most_faults, told}
 use Rattle.whole.specs.declared.outcome.Failure.{Failure}
 use Rattle.whole.specs.declared.outcome.Failure.TheVariants.{TooLong, NoMemory}
-use Rattle.whole.specs.declared.outcome.Outcome.{Outcome}
 
 -- the fault at which a reading stopped, if it did at one
 abbrev pub stop_faults : Stop → List Fault

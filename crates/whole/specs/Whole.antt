@@ -1,5 +1,5 @@
 -- A whole sheet: which calls of the service are made for a text, and what comes of them. Assumes nothing.
-use Rattle.std.specs.Prelude.{◌≡◌, ℕ, ◌<◌, ◌≤◌, List, [], ◌∷◌, ◌++◌, map, length, take, Ok, Err, vec_items, Result}
+use Rattle.std.specs.Prelude.{◌≡◌, ℕ, List, [], ◌∷◌, ◌++◌, map, length, take, Ok, Err, vec_items, Result}
 use Rattle.parser.specs.Sets.{Lists}
 use Rattle.sheet.specs.declared.fault.Fault.{Fault}
 use Rattle.sheet.specs.declared.lexeme.Lexeme.{Lexeme}

@@ -1,4 +1,4 @@
-use Rattle.std.proofs.Common.{◌+◌, List, get_or, take, vec_items, sym, refl, ◌∙◌, subst, arith}
+use Rattle.std.proofs.Common.{List, get_or, take, vec_items, sym, subst, arith}
 use Rattle.std.proofs.lemmas.List.{take_all, take_more}
 use Rattle.parser.specs.Meaning.{Meaning, meaning}
 use Rattle.parser.proofs.Meanings.{same_sym}

@@ -1,4 +1,4 @@
-use Rattle.std.proofs.Common.{vec_items, rules}
+use Rattle.std.proofs.Common.{rules}
 use Rattle.layout.specs.Law.{Law}
 use Rattle.layout.proofs.Lawful.{law}
 use Rattle.layout.proofs.Replaying.{replayed_alike}

@@ -1,11 +1,11 @@
-use Rattle.std.proofs.Common.{◌≡◌, ℕ, true, false, List, [], length, is_some, Ok, Err, Result, sym, refl, ap, ◌∙◌, subst, arith}
+use Rattle.std.proofs.Common.{◌≡◌, ℕ, List, [], length, Ok, Err, Result, sym, ap, ◌∙◌, subst, arith}
 use Rattle.std.proofs.lemmas.Result.{err_from_is_err_and}
 use Rattle.parser.specs.Meaning.{Meaning, meaning}
 use Rattle.sheet.specs.declared.fault.Reason.{Reason}
 use Rattle.layout.specs.Contexts.{stack}
-use Rattle.layout.specs.Drafts.{Inserted, Laying, NextAll, Step, contexts_of, tokens_of}
+use Rattle.layout.specs.Drafts.{Inserted, Laying, NextAll, Step, contexts_of}
 use Rattle.layout.specs.Marks.{kind}
-use Rattle.layout.specs.Rules.{Applies, inserting, leaves, onward, opening}
+use Rattle.layout.specs.Rules.{Applies, inserting, leaves, onward}
 use Rattle.layout.specs.declared.draft.Draft.{Draft}
 use Rattle.layout.specs.declared.rule.Insert.{Insert}
 use Rattle.layout.specs.declared.rule.Onward.{Onward}

@@ -1,4 +1,4 @@
-use Rattle.std.proofs.Common.{◌≡◌, [], sym, ap, ◌∙◌, subst}
+use Rattle.std.proofs.Common.{[], sym, ap, ◌∙◌, subst}
 use Rattle.std.proofs.lemmas.Bool.{true≢false}
 use Rattle.layout.specs.First.{close_rule}
 use Rattle.layout.specs.Rules.{Applies, MustClose, close_on_error, open_typed, write_lexeme}

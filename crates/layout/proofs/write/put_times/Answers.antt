@@ -1,4 +1,4 @@
-use Rattle.std.proofs.Common.{◌<◌, ◌≤◌, is_ok, ap, ◌∙◌, subst, le_antisymm, arith}
+use Rattle.std.proofs.Common.{◌<◌, is_ok, subst, le_antisymm, arith}
 use Rattle.queue.specs.Waiting.{room, waiting}
 use Rattle.layout.proofs.Queues.{Putting, put_list, putting_more, putting_none}
 use Rattle.layout.proofs.write.put_times.Goals as goal

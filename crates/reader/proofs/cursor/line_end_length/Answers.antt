@@ -1,4 +1,4 @@
-use Rattle.std.proofs.Common.{◌≡◌, false, sym, ◌∙◌, arith, rules}
+use Rattle.std.proofs.Common.{◌≡◌, false, sym, ◌∙◌, rules}
 use Rattle.std.proofs.lemmas.Bool.{cond-false}
 use Rattle.reader.specs.Places.{crlf}
 use Rattle.reader.proofs.Steps.{short_not_crlf, other_not_crlf}

@@ -1,6 +1,6 @@
 use Rattle.std.proofs.Common.{sym, ap, ◌∙◌, arith}
 use Rattle.reader.specs.Parts.{takes}
-use Rattle.reader.proofs.Fronts.{fronts_more, fronts_stop, fronts_end, fronts_le}
+use Rattle.reader.proofs.Fronts.{fronts_more, fronts_stop, fronts_end}
 use Rattle.reader.proofs.run.front_length.Goals as goal
 
 pub returns-then-not-takes : goal.returns-then-not-takes

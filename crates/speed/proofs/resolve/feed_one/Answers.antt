@@ -1,6 +1,6 @@
-use Rattle.std.proofs.Common.{◌≡◌, ◌-◌, length, refl, ap, ◌∙◌, arith}
+use Rattle.std.proofs.Common.{◌≡◌, length, refl, ap, ◌∙◌, arith}
 use Rattle.parser.specs.Meaning.{Meaning, meaning}
-use Rattle.queue.specs.Waiting.{capacity, room, waiting}
+use Rattle.queue.specs.Waiting.{room, waiting}
 use Rattle.layout.specs.Calling.{standing}
 use Rattle.whole.specs.Whole.{places}
 use Rattle.whole.proofs.Feeds.{one_within, refused_empty}

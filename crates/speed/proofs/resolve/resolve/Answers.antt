@@ -1,8 +1,7 @@
-use Rattle.std.proofs.Common.{◌≡◌, false, [], Result, refl, ◌∙◌, subst}
+use Rattle.std.proofs.Common.{false, [], Result, refl, ◌∙◌, subst}
 use Rattle.parser.specs.Meaning.{Meaning, meaning}
 use Rattle.sheet.specs.declared.fault.Fault.{Fault}
 use Rattle.layout.specs.Calling.{Calls, begin_answer, standing}
-use Rattle.layout.specs.declared.call.Answer.TheVariants.{Ticket as handed}
 use Rattle.layout.specs.declared.call.Call.TheVariants.{Begin}
 use Rattle.layout.specs.declared.ticket.Ticket.{Ticket}
 use Rattle.whole.proofs.Sheets.{begun_open}

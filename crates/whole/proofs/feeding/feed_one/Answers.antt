@@ -1,7 +1,7 @@
-use Rattle.std.proofs.Common.{◌≡◌, ◌-◌, ◌≤◌, length, vec_items, sym, ap, ◌∙◌, arith}
+use Rattle.std.proofs.Common.{◌≡◌, ◌≤◌, length, vec_items, ap, ◌∙◌, arith}
 use Rattle.std.proofs.lemmas.Result.{IfOk-weaker}
 use Rattle.parser.specs.Meaning.{Meaning, meaning}
-use Rattle.queue.specs.Waiting.{capacity, room, waiting}
+use Rattle.queue.specs.Waiting.{room, waiting}
 use Rattle.layout.specs.Calling.{standing}
 use Rattle.whole.specs.Whole.{places}
 use Rattle.whole.proofs.Feeds.{one_accepted, one_refused, one_within, refused_empty}

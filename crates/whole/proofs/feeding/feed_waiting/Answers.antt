@@ -1,4 +1,4 @@
-use Rattle.std.proofs.Common.{◌≡◌, ◌≤◌, length, vec_items, sym, refl, ap, ◌∙◌, arith, rules}
+use Rattle.std.proofs.Common.{◌≤◌, length, vec_items, sym, refl, ◌∙◌, arith, rules}
 use Rattle.parser.specs.Meaning.{Meaning, meaning}
 use Rattle.queue.specs.Waiting.{waiting}
 use Rattle.layout.specs.Calling.{standing}

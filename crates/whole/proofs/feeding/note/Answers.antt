@@ -1,4 +1,4 @@
-use Rattle.std.proofs.Common.{vec_items, sym, ◌∙◌, arith}
+use Rattle.std.proofs.Common.{vec_items, ◌∙◌, arith}
 use Rattle.whole.proofs.Notes.{noted_full, noted_one}
 use Rattle.whole.proofs.feeding.note.Goals as goal
 

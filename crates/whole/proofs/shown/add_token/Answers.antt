@@ -1,4 +1,4 @@
-use Rattle.std.proofs.Common.{◌≡◌, ℕ, cond, List, [], ◌++◌, is_ok, vec_items, codes, ap, ◌∙◌}
+use Rattle.std.proofs.Common.{ℕ, cond, List, [], ◌++◌, is_ok, vec_items, codes, ap, ◌∙◌}
 use Rattle.whole.specs.Listing.{token_text}
 use Rattle.whole.proofs.Listed.{added_then}
 use Rattle.whole.proofs.shown.add_token.Goals as goal

@@ -1,4 +1,4 @@
-use Rattle.std.proofs.Common.{Ok, Err, sym, refl, subst}
+use Rattle.std.proofs.Common.{sym, subst}
 use Rattle.parser.specs.Meaning.{Meaning, meaning}
 use Rattle.layout.specs.Contexts.{stack}
 use Rattle.layout.specs.Moves.{Moves}

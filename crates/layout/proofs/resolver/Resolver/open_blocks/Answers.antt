@@ -1,4 +1,4 @@
-use Rattle.std.proofs.Common.{◌≡◌, ◌≤◌, length, sym, ap, ◌∙◌, arith}
+use Rattle.std.proofs.Common.{◌≡◌, sym, ap, ◌∙◌, arith}
 use Rattle.layout.specs.Contexts.{implicit_among, stack}
 use Rattle.layout.proofs.Stacks.{idle_none, implicit_few, implicit_none, implicit_one, length_stack}
 use Rattle.layout.proofs.resolver.Resolver.open_blocks.Goals as goal

@@ -1,10 +1,9 @@
-use Rattle.std.proofs.Common.{◌≡◌, ℕ, ◌<◌, [], ◌∷◌, ◌++◌, is_ok, Ok, Err, Result, sym, refl, ap, ◌∙◌, subst, arith}
+use Rattle.std.proofs.Common.{◌≡◌, ℕ, ◌<◌, [], ◌∷◌, ◌++◌, is_ok, Ok, Err, Result, refl, ap, ◌∙◌, subst, arith}
 use Rattle.parser.specs.Meaning.{Meaning, meaning}
 use Rattle.queue.specs.Waiting.{room, waiting}
 use Rattle.sheet.specs.declared.fault.Reason.{Reason}
 use Rattle.layout.specs.Calling.{Fed, feed_answer, standing}
 use Rattle.layout.specs.Drafts.{alone, empty}
-use Rattle.layout.specs.Marks.{written}
 use Rattle.layout.proofs.Answered.{fed_denied, fed_room, fed_writes, feeds_from}
 use Rattle.layout.proofs.Queues.{put_list}
 use Rattle.layout.proofs.ticket.Ticket.feed.Given as given

@@ -1,4 +1,4 @@
-use Rattle.std.proofs.Common.{ℕ, Ok, Err, sym, refl, ap, ◌∙◌, subst, arith}
+use Rattle.std.proofs.Common.{ℕ, Ok, Err, refl, subst, arith}
 use Rattle.parser.specs.Meaning.{Meaning, meaning}
 use Rattle.queue.specs.Waiting.{waiting}
 use Rattle.layout.specs.Calling.{Finished, standing}

@@ -1,4 +1,4 @@
-use Rattle.std.proofs.Common.{sym, ◌∙◌, arith}
+use Rattle.std.proofs.Common.{sym, arith}
 use Rattle.reader.proofs.Places.{column_bounds}
 use Rattle.reader.proofs.Steps.{blank_passed}
 use Rattle.reader.proofs.cursor.Cursor.after_any_blank.Goals as goal

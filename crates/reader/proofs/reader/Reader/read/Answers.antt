@@ -1,8 +1,8 @@
-use Rattle.std.proofs.Common.{◌≡◌, ◌+◌, ◌<◌, ◌∷◌, length, is_ok, Ok, Err, sym, refl, ap, ◌∙◌, subst, arith}
+use Rattle.std.proofs.Common.{◌≡◌, ◌∷◌, length, Err, sym, refl, ap, ◌∙◌, subst, arith}
 use Rattle.std.proofs.lemmas.Result.{err_from_is_err_and}
-use Rattle.std.proofs.lemmas.Bool.{cond-true, cond-false, ltb-false, ltb-true, true≢false}
+use Rattle.std.proofs.lemmas.Bool.{ltb-false, ltb-true, true≢false}
 use Rattle.reader.specs.Found.{Begins}
-use Rattle.reader.specs.Items.{bad, good, item_of, items}
+use Rattle.reader.specs.Items.{good, item_of, items}
 use Rattle.reader.specs.Reading.{offset_of, text_of}
 use Rattle.reader.proofs.Readings.{first_left, halted_at_end, halted_at_fault, halted_at_full, none_left, one_more}
 use Rattle.reader.proofs.reader.Reader.read.Goals as goal

@@ -1,7 +1,7 @@
 // A small parser of its own: any number of names. It shows that the interfaces can be kept, and tries what is generic
 // over them.
 ghost use Rattle.std.specs.Prelude.{◌≡◌, true, false};
-ghost use Rattle.std.specs.List.{AllByRecursion as All};
+ghost use Rattle.std.specs.List.{AllByRecursion};
 ghost use Rattle.parser.specs.Meaning.{Mark, absent, holds};
 ghost use Rattle.std.proofs.Common.{rules};
 
@@ -27,7 +27,7 @@ fn new_names() -> Names {
 }
 
 impl Probing for Names {
-    ghost remainder = { λ s. All (λ kind. kind ≡ 1) };
+    ghost remainder = { λ s. AllByRecursion (λ kind. kind ≡ 1) };
 
     fn viable(&self, kind: u32) -> bool {
         kind == NAME
@@ -39,13 +39,13 @@ impl Probing for Names {
 }
 
 impl Stepping for Names {
-    ghost language = { λ s. All (λ kind. kind ≡ 1) };
+    ghost language = { λ s. AllByRecursion (λ kind. kind ≡ 1) };
 
     ghost reach = { λ s. 3 };
 
     ghost left = { λ s. s.left };
 
-    ghost saved = { λ s. elim s.marked as (λ _. Mark) [ true ↦ holds (All (λ kind. kind ≡ 1)) s.earlier | false ↦ absent ] };
+    ghost saved = { λ s. elim s.marked as (λ _. Mark) [ true ↦ holds (AllByRecursion (λ kind. kind ≡ 1)) s.earlier | false ↦ absent ] };
 
     ghost reach_small = { Prim.search rules };
 

@@ -2,7 +2,7 @@
 ghost use Rattle.std.specs.Prelude.{◌≡◌, false, [], ◌++◌, IfOk, if◌then◌else◌, codes, OnOk};
 ghost use Rattle.std.specs.List.{flat_map};
 ghost use Rattle.whole.specs.Listing.{fault_line, listed, one_spaced, sign_text, spaced, token_text};
-ghost use Rattle.whole.specs.Whole.{outcome as ListsOf};
+ghost use Rattle.whole.specs.Whole.{outcome as lists_of};
 
 use crate::outcome::Outcome;
 use sheet::{Fault, Token};
@@ -92,7 +92,7 @@ fn add_faults(heap: Global, bytes: &mut Vec<u8>, faults: &[Fault]) -> Result<(),
 
 // The bytes that are printed of a sheet with this text.
 pub fn listing(heap: Global, text: &[u8], found: &Outcome) -> Result<Vec<u8>, AllocError>
-    ensures { IfOk result (λ v. v.items ≡ listed text.now (ListsOf found.now)) }
+    ensures { IfOk result (λ v. v.items ≡ listed text.now (lists_of found.now)) }
 {
     let mut bytes = Vec::new(heap);
     match found {

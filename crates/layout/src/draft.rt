@@ -193,7 +193,7 @@ fn reason_of(refused: Refused) -> Reason
 
 // Has the parser take a token's kind, unless it is a `{` and too many blocks are open.
 pub fn take_token<P: Stepping>(parser: &mut P, kind: u32, blocks: usize) -> Result<(), Reason>
-    ensures { Step kind blocks (meaning P.Stepping.language P.Stepping.reach P.Probing.remainder P.Stepping.left P.Stepping.saved parser.old) (meaning P.Stepping.language P.Stepping.reach P.Probing.remainder P.Stepping.left P.Stepping.saved parser.new) result }
+    ensures { Step kind blocks (meaning P.Stepping parser.old) (meaning P.Stepping parser.new) result }
 {
     if !has_room(kind, blocks) {
         return Err(Reason::TooDeep);
@@ -213,7 +213,7 @@ pub fn insert_all<P: Stepping>(
 ) -> Result<Draft, Reason>
     requires order { NextAll draft tokens.now }
     requires few { length (tokens_of draft) + length tokens.now < 2 ^ 31 }
-    ensures { Inserted tokens.now blocks draft (meaning P.Stepping.language P.Stepping.reach P.Probing.remainder P.Stepping.left P.Stepping.saved parser.old) (meaning P.Stepping.language P.Stepping.reach P.Probing.remainder P.Stepping.left P.Stepping.saved parser.new) result }
+    ensures { Inserted tokens.now blocks draft (meaning P.Stepping parser.old) (meaning P.Stepping parser.new) result }
 {
     let mut drafted = draft;
     for token in tokens {

@@ -64,7 +64,7 @@ fn refusal(refused: Refusal) -> Fault
 // Makes a call with a ticket of the number that it says.
 fn make<P: Stepping>(resolver: &mut Resolver<P>, call: Call, queue: &mut Queue<'_, Token>) -> Answer
     requires { free_places call ≡ room queue.old }
-    ensures { Writes (meaning P.Stepping.language P.Stepping.reach P.Probing.remainder P.Stepping.left P.Stepping.saved resolver.old.parser) (standing resolver.old) call result (waiting queue.old) (waiting queue.new) (meaning P.Stepping.language P.Stepping.reach P.Probing.remainder P.Stepping.left P.Stepping.saved resolver.new.parser) (standing resolver.new) }
+    ensures { Writes (meaning P.Stepping resolver.old.parser) (standing resolver.old) call result (waiting queue.old) (waiting queue.new) (meaning P.Stepping resolver.new.parser) (standing resolver.new) }
 {
     match call {
         Call::Begin => match resolver.begin() {
@@ -109,7 +109,7 @@ fn note<P: Stepping>(
     call: Call,
     journal: &mut Journal,
 ) -> Result<(), AllocError>
-    ensures { OnOk result (Noted (meaning P.Stepping.language P.Stepping.reach P.Probing.remainder P.Stepping.left P.Stepping.saved resolver.old.parser) (standing resolver.old) call journal.old.answers.items journal.new.answers.items journal.old.tokens.items journal.new.tokens.items (meaning P.Stepping.language P.Stepping.reach P.Probing.remainder P.Stepping.left P.Stepping.saved resolver.new.parser) (standing resolver.new)) }
+    ensures { OnOk result (Noted (meaning P.Stepping resolver.old.parser) (standing resolver.old) call journal.old.answers.items journal.new.answers.items journal.old.tokens.items journal.new.tokens.items (meaning P.Stepping resolver.new.parser) (standing resolver.new)) }
 {
     let mut places = [BLANK; MOST_FREE];
     let mut queue = Queue::new(&mut places[..usize::from(call.free())]);

@@ -45,7 +45,7 @@ pub fn lay<P: Stepping>(
     requires within { depth ≤ length contexts.now }
     requires shallow { depth ≤ 64 }
     requires fitting { Fitting mark coming.now }
-    ensures { Laying contexts.now (stack contexts.now depth) mark coming.now (meaning P.Stepping.language P.Stepping.reach P.Probing.remainder P.Stepping.left P.Stepping.saved parser.old) (meaning P.Stepping.language P.Stepping.reach P.Probing.remainder P.Stepping.left P.Stepping.saved parser.new) result }
+    ensures { Laying contexts.now (stack contexts.now depth) mark coming.now (meaning P.Stepping parser.old) (meaning P.Stepping parser.new) result }
 {
     let mut draft = Draft::new(depth);
     let mut mark = mark;

@@ -1,3 +1,4 @@
+pub mod Bound
 pub mod Flags
 pub mod Meanings
 pub mod Steps

@@ -18,10 +18,14 @@ pub record Meaning : Type 1 where
   pub left : ℕ
   pub mark : Mark
 
--- the meaning of a value, from the parts that an interface gives of it
-abbrev pub meaning : {S : Type 0} → (S → Lists) → (S → ℕ) → (S → Lists) → (S → ℕ) → (S → Mark) → S → Meaning
-meaning language reach remainder left saved s =
-    record { language = language s; reach = reach s; remainder = remainder s; left = left s; mark = saved s }
+-- the parts of a meaning that the two interfaces give of a value
+abbrev pub Parts : Type 0 → Type 1
+Parts S = record { remainder : S → Lists; language : S → Lists; reach : S → ℕ; left : S → ℕ; saved : S → Mark }
+
+-- the meaning of a value, from those parts
+abbrev pub meaning : {S : Type 0} → Parts S → S → Meaning
+meaning parts s =
+    record { language = parts.language s; reach = parts.reach s; remainder = parts.remainder s; left = parts.left s; mark = parts.saved s }
 
 -- the same mark: both absent, or the same remainder and number left held
 abbrev pub SameMark : Mark → Mark → Type 0

@@ -61,19 +61,19 @@ pub trait Stepping: Probing {
     ghost saved: { Self → Mark };
 
     fn start(&mut self)
-        ensures { Alike (meaning language reach Self.remainder left saved self.new) (started (meaning language reach Self.remainder left saved self.old)) };
+        ensures { Alike (meaning Self.Stepping self.new) (started (meaning Self.Stepping self.old)) };
 
     fn take(&mut self, kind: u32) -> Result<(), Refused>
-        ensures { Takes kind (meaning language reach Self.remainder left saved self.old) result (meaning language reach Self.remainder left saved self.new) };
+        ensures { Takes kind (meaning Self.Stepping self.old) result (meaning Self.Stepping self.new) };
 
     fn mark(&mut self)
-        ensures { Alike (meaning language reach Self.remainder left saved self.new) (marked (meaning language reach Self.remainder left saved self.old)) };
+        ensures { Alike (meaning Self.Stepping self.new) (marked (meaning Self.Stepping self.old)) };
 
     fn back(&mut self)
-        ensures { Alike (meaning language reach Self.remainder left saved self.new) (returned (meaning language reach Self.remainder left saved self.old)) };
+        ensures { Alike (meaning Self.Stepping self.new) (returned (meaning Self.Stepping self.old)) };
 
     fn keep(&mut self)
-        ensures { Alike (meaning language reach Self.remainder left saved self.new) (kept (meaning language reach Self.remainder left saved self.old)) };
+        ensures { Alike (meaning Self.Stepping self.new) (kept (meaning Self.Stepping self.old)) };
 
     ghost reach_small: { (s : Self) → reach s ≤ 65535 };
 }

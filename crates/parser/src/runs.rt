@@ -32,7 +32,7 @@ pub enum Answer {
 pub fn take_all<P: Stepping>(parser: &mut P, kinds: &[u32]) -> usize
     ensures within { result ≤ length kinds.now }
     ensures paid { result ≤ P.left parser.old }
-    ensures steps { Alike (meaning P.language P.reach P.Probing.remainder P.left P.saved parser.new) (after (front result kinds.now) (meaning P.language P.reach P.Probing.remainder P.left P.saved parser.old)) }
+    ensures steps { Alike (meaning P.Stepping parser.new) (after (front result kinds.now) (meaning P.Stepping parser.old)) }
     ensures stops { result < length kinds.now → (Begins (P.Probing.remainder parser.new) (slice_index kinds.now result) → ⊥) ⊎ (P.left parser.new ≡ 0) }
     ensures prefix { BeginsWith (P.Probing.remainder parser.old) kinds.now → length kinds.now ≤ P.left parser.old → result ≡ length kinds.now }
 {
@@ -55,8 +55,8 @@ fn finished<P: Probing>(parser: &P, count: usize, all: usize) -> bool
 // Whether the list is a sentence of the parser's language that its reach allows. It begins with a start and
 // leaves the parser as a start does.
 pub fn accepts<P: Stepping>(parser: &mut P, kinds: &[u32]) -> bool
-    ensures decides { Decides result (WithinReach (meaning P.language P.reach P.Probing.remainder P.left P.saved parser.old) kinds.now) }
-    ensures fresh { Alike (meaning P.language P.reach P.Probing.remainder P.left P.saved parser.new) (started (meaning P.language P.reach P.Probing.remainder P.left P.saved parser.old)) }
+    ensures decides { Decides result (WithinReach (meaning P.Stepping parser.old) kinds.now) }
+    ensures fresh { Alike (meaning P.Stepping parser.new) (started (meaning P.Stepping parser.old)) }
 {
     parser.start();
     let count = take_all(parser, kinds);
@@ -67,8 +67,8 @@ pub fn accepts<P: Stepping>(parser: &mut P, kinds: &[u32]) -> bool
 
 // Asks or does what the call says.
 pub fn perform<P: Stepping>(parser: &mut P, call: Call) -> Answer
-    ensures told { Answers (meaning P.language P.reach P.Probing.remainder P.left P.saved parser.old) call result }
-    ensures means { Alike (meaning P.language P.reach P.Probing.remainder P.left P.saved parser.new) (next call result (meaning P.language P.reach P.Probing.remainder P.left P.saved parser.old)) }
+    ensures told { Answers (meaning P.Stepping parser.old) call result }
+    ensures means { Alike (meaning P.Stepping parser.new) (next call result (meaning P.Stepping parser.old)) }
 {
     match call {
         Call::Viable(kind) => Answer::Told(parser.viable(kind)),
@@ -106,10 +106,10 @@ fn same(one: Answer, other: Answer) -> bool
 // Makes the calls on both parsers up to the first that they answer differently, and tells whether they answered the same
 // to each. Two that are alike answer the same and stay alike, for ever, whatever they are made of.
 pub fn agree<P: Stepping, Q: Stepping>(one: &mut P, other: &mut Q, calls: &[Call]) -> bool
-    ensures told { Decides result (Agree (meaning P.Stepping.language P.Stepping.reach P.Probing.remainder P.Stepping.left P.Stepping.saved one.old) (meaning Q.Stepping.language Q.Stepping.reach Q.Probing.remainder Q.Stepping.left Q.Stepping.saved other.old) calls.now) }
-    ensures made { Made (meaning P.Stepping.language P.Stepping.reach P.Probing.remainder P.Stepping.left P.Stepping.saved one.old) (meaning Q.Stepping.language Q.Stepping.reach Q.Probing.remainder Q.Stepping.left Q.Stepping.saved other.old) calls.now (meaning P.Stepping.language P.Stepping.reach P.Probing.remainder P.Stepping.left P.Stepping.saved one.new) (meaning Q.Stepping.language Q.Stepping.reach Q.Probing.remainder Q.Stepping.left Q.Stepping.saved other.new) }
-    ensures alike { Alike (meaning P.Stepping.language P.Stepping.reach P.Probing.remainder P.Stepping.left P.Stepping.saved one.old) (meaning Q.Stepping.language Q.Stepping.reach Q.Probing.remainder Q.Stepping.left Q.Stepping.saved other.old) → (result ≡ true) × Alike (meaning P.Stepping.language P.Stepping.reach P.Probing.remainder P.Stepping.left P.Stepping.saved one.new) (meaning Q.Stepping.language Q.Stepping.reach Q.Probing.remainder Q.Stepping.left Q.Stepping.saved other.new) }
-    ensures for_ever { Alike (meaning P.Stepping.language P.Stepping.reach P.Probing.remainder P.Stepping.left P.Stepping.saved one.old) (meaning Q.Stepping.language Q.Stepping.reach Q.Probing.remainder Q.Stepping.left Q.Stepping.saved other.old) → SameForEver (meaning P.Stepping.language P.Stepping.reach P.Probing.remainder P.Stepping.left P.Stepping.saved one.old) (meaning Q.Stepping.language Q.Stepping.reach Q.Probing.remainder Q.Stepping.left Q.Stepping.saved other.old) }
+    ensures told { Decides result (Agree (meaning P.Stepping one.old) (meaning Q.Stepping other.old) calls.now) }
+    ensures made { Made (meaning P.Stepping one.old) (meaning Q.Stepping other.old) calls.now (meaning P.Stepping one.new) (meaning Q.Stepping other.new) }
+    ensures alike { Alike (meaning P.Stepping one.old) (meaning Q.Stepping other.old) → (result ≡ true) × Alike (meaning P.Stepping one.new) (meaning Q.Stepping other.new) }
+    ensures for_ever { Alike (meaning P.Stepping one.old) (meaning Q.Stepping other.old) → SameForEver (meaning P.Stepping one.old) (meaning Q.Stepping other.old) }
 {
     for call in calls {
         let first = perform(one, *call);

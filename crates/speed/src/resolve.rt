@@ -95,8 +95,8 @@ fn feed_one<P: Stepping>(
 )
     requires empty { waiting tokens.old ≡ [] }
     requires places { capacity tokens.old ≡ 128 }
-    ensures within { Within (meaning P.Stepping.language P.Stepping.reach P.Probing.remainder P.Stepping.left P.Stepping.saved resolver.old.parser) (standing resolver.old) (meaning P.Stepping.language P.Stepping.reach P.Probing.remainder P.Stepping.left P.Stepping.saved resolver.new.parser) (standing resolver.new) }
-    ensures adds { Adds (meaning P.Stepping.language P.Stepping.reach P.Probing.remainder P.Stepping.left P.Stepping.saved resolver.old.parser) (standing resolver.old) ticket.now.number (told_lexeme lexeme ∷ []) tally.old tally.new (meaning P.Stepping.language P.Stepping.reach P.Probing.remainder P.Stepping.left P.Stepping.saved resolver.new.parser) (standing resolver.new) }
+    ensures within { Within (meaning P.Stepping resolver.old.parser) (standing resolver.old) (meaning P.Stepping resolver.new.parser) (standing resolver.new) }
+    ensures adds { Adds (meaning P.Stepping resolver.old.parser) (standing resolver.old) ticket.now.number (told_lexeme lexeme ∷ []) tally.old tally.new (meaning P.Stepping resolver.new.parser) (standing resolver.new) }
     ensures emptied { waiting tokens.new ≡ [] }
     ensures size { capacity tokens.new ≡ capacity tokens.old }
 {
@@ -116,8 +116,8 @@ fn feed_waiting<P: Stepping>(
 )
     requires empty { waiting tokens.old ≡ [] }
     requires places { capacity tokens.old ≡ 128 }
-    ensures within { Within (meaning P.Stepping.language P.Stepping.reach P.Probing.remainder P.Stepping.left P.Stepping.saved resolver.old.parser) (standing resolver.old) (meaning P.Stepping.language P.Stepping.reach P.Probing.remainder P.Stepping.left P.Stepping.saved resolver.new.parser) (standing resolver.new) }
-    ensures adds { Adds (meaning P.Stepping.language P.Stepping.reach P.Probing.remainder P.Stepping.left P.Stepping.saved resolver.old.parser) (standing resolver.old) ticket.now.number (map told_lexeme (waiting lexemes.old)) tally.old tally.new (meaning P.Stepping.language P.Stepping.reach P.Probing.remainder P.Stepping.left P.Stepping.saved resolver.new.parser) (standing resolver.new) }
+    ensures within { Within (meaning P.Stepping resolver.old.parser) (standing resolver.old) (meaning P.Stepping resolver.new.parser) (standing resolver.new) }
+    ensures adds { Adds (meaning P.Stepping resolver.old.parser) (standing resolver.old) ticket.now.number (map told_lexeme (waiting lexemes.old)) tally.old tally.new (meaning P.Stepping resolver.new.parser) (standing resolver.new) }
     ensures taken { waiting lexemes.new ≡ [] }
     ensures emptied { waiting tokens.new ≡ [] }
     ensures read_size { capacity lexemes.new ≡ capacity lexemes.old }
@@ -138,8 +138,8 @@ fn feed_all<P: Stepping>(
 ) -> Place
     requires empty { waiting tokens.old ≡ [] }
     requires places { capacity tokens.old ≡ 128 }
-    ensures within { Within (meaning P.Stepping.language P.Stepping.reach P.Probing.remainder P.Stepping.left P.Stepping.saved resolver.old.parser) (standing resolver.old) (meaning P.Stepping.language P.Stepping.reach P.Probing.remainder P.Stepping.left P.Stepping.saved resolver.new.parser) (standing resolver.new) }
-    ensures adds { Adds (meaning P.Stepping.language P.Stepping.reach P.Probing.remainder P.Stepping.left P.Stepping.saved resolver.old.parser) (standing resolver.old) ticket.now.number (told (readable text.now)) tally.old tally.new (meaning P.Stepping.language P.Stepping.reach P.Probing.remainder P.Stepping.left P.Stepping.saved resolver.new.parser) (standing resolver.new) }
+    ensures within { Within (meaning P.Stepping resolver.old.parser) (standing resolver.old) (meaning P.Stepping resolver.new.parser) (standing resolver.new) }
+    ensures adds { Adds (meaning P.Stepping resolver.old.parser) (standing resolver.old) ticket.now.number (told (readable text.now)) tally.old tally.new (meaning P.Stepping resolver.new.parser) (standing resolver.new) }
     ensures place { result ≡ end_of (readable text.now) }
     ensures emptied { waiting tokens.new ≡ [] }
     ensures size { capacity tokens.new ≡ capacity tokens.old }
@@ -160,7 +160,7 @@ fn feed_all<P: Stepping>(
 // Gives up the open sheet.
 fn give_up<P: Stepping>(ticket: Ticket, resolver: &mut Resolver<P>)
     requires { (standing resolver.old).sheet ≡ open_sheet ticket.number }
-    ensures { Calls (meaning P.Stepping.language P.Stepping.reach P.Probing.remainder P.Stepping.left P.Stepping.saved resolver.old.parser) (standing resolver.old) (give_up_call ticket.number) closed_answer [] (meaning P.Stepping.language P.Stepping.reach P.Probing.remainder P.Stepping.left P.Stepping.saved resolver.new.parser) (standing resolver.new) }
+    ensures { Calls (meaning P.Stepping resolver.old.parser) (standing resolver.old) (give_up_call ticket.number) closed_answer [] (meaning P.Stepping resolver.new.parser) (standing resolver.new) }
 {
     ticket.give_up(resolver).unwrap();
 }
@@ -176,7 +176,7 @@ fn conclude<P: Stepping>(
     requires sheet { (standing resolver.old).sheet ≡ open_sheet ticket.number }
     requires empty { waiting tokens.old ≡ [] }
     requires places { capacity tokens.old ≡ 128 }
-    ensures { Closes (meaning P.Stepping.language P.Stepping.reach P.Probing.remainder P.Stepping.left P.Stepping.saved resolver.old.parser) (standing resolver.old) ticket.number «end» tally result (standing resolver.new) }
+    ensures { Closes (meaning P.Stepping resolver.old.parser) (standing resolver.old) ticket.number «end» tally result (standing resolver.new) }
 {
     if tally.refused {
         give_up(ticket, resolver);

@@ -93,8 +93,8 @@ fn feed_one<P: Stepping>(
     requires empty { waiting queue.old ≡ [] }
     requires places { capacity queue.old ≡ 128 }
     requires few { vec_len kept.old.faults ≤ 256 }
-    ensures within { Within (meaning P.Stepping.language P.Stepping.reach P.Probing.remainder P.Stepping.left P.Stepping.saved resolver.old.parser) (standing resolver.old) (meaning P.Stepping.language P.Stepping.reach P.Probing.remainder P.Stepping.left P.Stepping.saved resolver.new.parser) (standing resolver.new) }
-    ensures keeps { OnOk result (Keeps (meaning P.Stepping.language P.Stepping.reach P.Probing.remainder P.Stepping.left P.Stepping.saved resolver.old.parser) (standing resolver.old) ticket.now.number (told_lexeme lexeme ∷ []) kept.old.tokens.items kept.new.tokens.items kept.old.faults.items kept.new.faults.items (meaning P.Stepping.language P.Stepping.reach P.Probing.remainder P.Stepping.left P.Stepping.saved resolver.new.parser) (standing resolver.new)) }
+    ensures within { Within (meaning P.Stepping resolver.old.parser) (standing resolver.old) (meaning P.Stepping resolver.new.parser) (standing resolver.new) }
+    ensures keeps { OnOk result (Keeps (meaning P.Stepping resolver.old.parser) (standing resolver.old) ticket.now.number (told_lexeme lexeme ∷ []) kept.old.tokens.items kept.new.tokens.items kept.old.faults.items kept.new.faults.items (meaning P.Stepping resolver.new.parser) (standing resolver.new)) }
     ensures emptied { OnOk result (waiting queue.new ≡ []) }
     ensures size { capacity queue.new ≡ capacity queue.old }
 {
@@ -115,8 +115,8 @@ fn feed_waiting<P: Stepping>(
     requires empty { waiting queue.old ≡ [] }
     requires places { capacity queue.old ≡ 128 }
     requires few { vec_len kept.old.faults ≤ 256 }
-    ensures within { Within (meaning P.Stepping.language P.Stepping.reach P.Probing.remainder P.Stepping.left P.Stepping.saved resolver.old.parser) (standing resolver.old) (meaning P.Stepping.language P.Stepping.reach P.Probing.remainder P.Stepping.left P.Stepping.saved resolver.new.parser) (standing resolver.new) }
-    ensures keeps { OnOk result (Keeps (meaning P.Stepping.language P.Stepping.reach P.Probing.remainder P.Stepping.left P.Stepping.saved resolver.old.parser) (standing resolver.old) ticket.now.number (map told_lexeme (waiting lexemes.old)) kept.old.tokens.items kept.new.tokens.items kept.old.faults.items kept.new.faults.items (meaning P.Stepping.language P.Stepping.reach P.Probing.remainder P.Stepping.left P.Stepping.saved resolver.new.parser) (standing resolver.new)) }
+    ensures within { Within (meaning P.Stepping resolver.old.parser) (standing resolver.old) (meaning P.Stepping resolver.new.parser) (standing resolver.new) }
+    ensures keeps { OnOk result (Keeps (meaning P.Stepping resolver.old.parser) (standing resolver.old) ticket.now.number (map told_lexeme (waiting lexemes.old)) kept.old.tokens.items kept.new.tokens.items kept.old.faults.items kept.new.faults.items (meaning P.Stepping resolver.new.parser) (standing resolver.new)) }
     ensures taken { OnOk result (waiting lexemes.new ≡ []) }
     ensures emptied { OnOk result (waiting queue.new ≡ []) }
     ensures read_size { capacity lexemes.new ≡ capacity lexemes.old }
@@ -137,8 +137,8 @@ pub fn feed_all<P: Stepping>(
 ) -> Result<Place, AllocError>
     requires short { length text.now ≤ 65535 }
     requires few { vec_len kept.old.faults ≤ 256 }
-    ensures within { Within (meaning P.Stepping.language P.Stepping.reach P.Probing.remainder P.Stepping.left P.Stepping.saved resolver.old.parser) (standing resolver.old) (meaning P.Stepping.language P.Stepping.reach P.Probing.remainder P.Stepping.left P.Stepping.saved resolver.new.parser) (standing resolver.new) }
-    ensures keeps { OnOk result (Keeps (meaning P.Stepping.language P.Stepping.reach P.Probing.remainder P.Stepping.left P.Stepping.saved resolver.old.parser) (standing resolver.old) ticket.now.number (told text.now) kept.old.tokens.items kept.new.tokens.items kept.old.faults.items kept.new.faults.items (meaning P.Stepping.language P.Stepping.reach P.Probing.remainder P.Stepping.left P.Stepping.saved resolver.new.parser) (standing resolver.new)) }
+    ensures within { Within (meaning P.Stepping resolver.old.parser) (standing resolver.old) (meaning P.Stepping resolver.new.parser) (standing resolver.new) }
+    ensures keeps { OnOk result (Keeps (meaning P.Stepping resolver.old.parser) (standing resolver.old) ticket.now.number (told text.now) kept.old.tokens.items kept.new.tokens.items kept.old.faults.items kept.new.faults.items (meaning P.Stepping resolver.new.parser) (standing resolver.new)) }
     ensures place { IfOk result (λ p. p ≡ end_of text.now) }
 {
     let mut reader = Reader::open(text);

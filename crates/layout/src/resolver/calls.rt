@@ -47,7 +47,7 @@ impl<P: Stepping> Resolver<P> {
     // A resolver over a parser that is started, with no sheet open; the first sheet gets the first number.
     pub fn new(parser: P, first: u64) -> Resolver<P>
         ensures stands { standing result ≡ new first }
-        ensures parser { Took [] (started (meaning P.Stepping.language P.Stepping.reach P.Probing.remainder P.Stepping.left P.Stepping.saved parser)) (meaning P.Stepping.language P.Stepping.reach P.Probing.remainder P.Stepping.left P.Stepping.saved result.parser) }
+        ensures parser { Took [] (started (meaning P.Stepping parser)) (meaning P.Stepping result.parser) }
     {
         let mut parser = parser;
         parser.start();
@@ -63,7 +63,7 @@ impl<P: Stepping> Resolver<P> {
 
     // Opens a sheet and hands out its ticket.
     pub fn begin(&mut self) -> Result<Ticket, Fault>
-        ensures { Calls (meaning P.Stepping.language P.Stepping.reach P.Probing.remainder P.Stepping.left P.Stepping.saved self.old.parser) (standing self.old) Begin (begin_answer result) [] (meaning P.Stepping.language P.Stepping.reach P.Probing.remainder P.Stepping.left P.Stepping.saved self.new.parser) (standing self.new) }
+        ensures { Calls (meaning P.Stepping self.old.parser) (standing self.old) Begin (begin_answer result) [] (meaning P.Stepping self.new.parser) (standing self.new) }
     {
         if self.sheet.is_some() {
             return Err(self.fault(Reason::SheetOpen, 0, 0));
@@ -88,7 +88,7 @@ impl Ticket {
         lexeme: Lexeme,
         queue: &mut Queue<'_, Token>,
     ) -> Result<usize, Fault>
-        ensures writes { Writes (meaning P.Stepping.language P.Stepping.reach P.Probing.remainder P.Stepping.left P.Stepping.saved resolver.old.parser) (standing resolver.old) (Feed self.now.number lexeme (room queue.old)) (feed_answer result) (waiting queue.old) (waiting queue.new) (meaning P.Stepping.language P.Stepping.reach P.Probing.remainder P.Stepping.left P.Stepping.saved resolver.new.parser) (standing resolver.new) }
+        ensures writes { Writes (meaning P.Stepping resolver.old.parser) (standing resolver.old) (Feed self.now.number lexeme (room queue.old)) (feed_answer result) (waiting queue.old) (waiting queue.new) (meaning P.Stepping resolver.new.parser) (standing resolver.new) }
         ensures size { capacity queue.new ≡ capacity queue.old }
         ensures lender { queue.new.places.ghost_name ≡ queue.old.places.ghost_name }
     {
@@ -111,7 +111,7 @@ impl Ticket {
         lexeme: Lexeme,
         queue: &mut Queue<'_, Token>,
     ) -> Result<usize, Fault>
-        ensures writes { Writes (meaning P.Stepping.language P.Stepping.reach P.Probing.remainder P.Stepping.left P.Stepping.saved resolver.old.parser) (standing resolver.old) (Feed self.now.number lexeme (room queue.old)) (feed_answer result) (waiting queue.old) (waiting queue.new) (meaning P.Stepping.language P.Stepping.reach P.Probing.remainder P.Stepping.left P.Stepping.saved resolver.new.parser) (standing resolver.new) }
+        ensures writes { Writes (meaning P.Stepping resolver.old.parser) (standing resolver.old) (Feed self.now.number lexeme (room queue.old)) (feed_answer result) (waiting queue.old) (waiting queue.new) (meaning P.Stepping resolver.new.parser) (standing resolver.new) }
         ensures size { capacity queue.new ≡ capacity queue.old }
         ensures lender { queue.new.places.ghost_name ≡ queue.old.places.ghost_name }
     {
@@ -133,7 +133,7 @@ impl Ticket {
         end: Place,
         queue: &mut Queue<'_, Token>,
     ) -> Result<usize, Refusal>
-        ensures writes { Writes (meaning P.Stepping.language P.Stepping.reach P.Probing.remainder P.Stepping.left P.Stepping.saved resolver.old.parser) (standing resolver.old) (Finish self.number «end» (room queue.old)) (finish_answer result) (waiting queue.old) (waiting queue.new) (meaning P.Stepping.language P.Stepping.reach P.Probing.remainder P.Stepping.left P.Stepping.saved resolver.new.parser) (standing resolver.new) }
+        ensures writes { Writes (meaning P.Stepping resolver.old.parser) (standing resolver.old) (Finish self.number «end» (room queue.old)) (finish_answer result) (waiting queue.old) (waiting queue.new) (meaning P.Stepping resolver.new.parser) (standing resolver.new) }
         ensures ticket { IfErr result (λ e. e.ticket.number ≡ self.number) }
         ensures size { capacity queue.new ≡ capacity queue.old }
         ensures lender { queue.new.places.ghost_name ≡ queue.old.places.ghost_name }
@@ -154,7 +154,7 @@ impl Ticket {
 
     // Closes the sheet unfinished; what was written of it stays where it is.
     pub fn give_up<P: Stepping>(self, resolver: &mut Resolver<P>) -> Result<(), Refusal>
-        ensures calls { Calls (meaning P.Stepping.language P.Stepping.reach P.Probing.remainder P.Stepping.left P.Stepping.saved resolver.old.parser) (standing resolver.old) (GiveUp self.number) (give_up_answer result) [] (meaning P.Stepping.language P.Stepping.reach P.Probing.remainder P.Stepping.left P.Stepping.saved resolver.new.parser) (standing resolver.new) }
+        ensures calls { Calls (meaning P.Stepping resolver.old.parser) (standing resolver.old) (GiveUp self.number) (give_up_answer result) [] (meaning P.Stepping resolver.new.parser) (standing resolver.new) }
         ensures ticket { IfErr result (λ e. e.ticket.number ≡ self.number) }
     {
         if !resolver.is_open(self.number) {

@@ -38,7 +38,7 @@ impl<P: Stepping> Resolver<P> {
     // refused later: the caller marks it before.
     fn attempt(&mut self, coming: &Coming, mark: Mark, free: usize) -> Result<Draft, Reason>
         requires { Fitting mark coming.now }
-        ensures told { Attempts self.old.contexts (stack self.old.contexts self.old.depth) mark coming.now free (meaning P.Stepping.language P.Stepping.reach P.Probing.remainder P.Stepping.left P.Stepping.saved self.old.parser) (meaning P.Stepping.language P.Stepping.reach P.Probing.remainder P.Stepping.left P.Stepping.saved self.new.parser) result }
+        ensures told { Attempts self.old.contexts (stack self.old.contexts self.old.depth) mark coming.now free (meaning P.Stepping self.old.parser) (meaning P.Stepping self.new.parser) result }
         ensures beside { Beside self.old self.new }
     {
         let draft = lay(&mut self.parser, &self.contexts, self.depth, coming, mark)?;
@@ -60,7 +60,7 @@ impl<P: Stepping> Resolver<P> {
         free: usize,
     ) -> Result<Draft, Reason>
         requires { Fitting mark coming.now }
-        ensures told { Moves self.old.contexts (stack self.old.contexts self.old.depth) mark coming.now free (meaning P.Stepping.language P.Stepping.reach P.Probing.remainder P.Stepping.left P.Stepping.saved self.old.parser) (meaning P.Stepping.language P.Stepping.reach P.Probing.remainder P.Stepping.left P.Stepping.saved self.new.parser) result }
+        ensures told { Moves self.old.contexts (stack self.old.contexts self.old.depth) mark coming.now free (meaning P.Stepping self.old.parser) (meaning P.Stepping self.new.parser) result }
         ensures beside { Beside self.old self.new }
         ensures unmarked { SameMark (P.Stepping.saved self.new.parser) absent }
     {
@@ -84,7 +84,7 @@ impl<P: Stepping> Resolver<P> {
     // back. It is left open where a block may close before it.
     pub(super) fn take_directly(&mut self, lexeme: &Lexeme) -> Option<Result<(), Reason>>
         requires { Plain lexeme.now }
-        ensures told { (free : ℕ) → 1 ≤ free → MatchOption result (Took [] (meaning P.Stepping.language P.Stepping.reach P.Probing.remainder P.Stepping.left P.Stepping.saved self.old.parser) (meaning P.Stepping.language P.Stepping.reach P.Probing.remainder P.Stepping.left P.Stepping.saved self.new.parser)) (λ x. Moves self.old.contexts (stack self.old.contexts self.old.depth) none (lexeme' lexeme.now) free (meaning P.Stepping.language P.Stepping.reach P.Probing.remainder P.Stepping.left P.Stepping.saved self.old.parser) (meaning P.Stepping.language P.Stepping.reach P.Probing.remainder P.Stepping.left P.Stepping.saved self.new.parser) (alone self.old.depth x)) }
+        ensures told { (free : ℕ) → 1 ≤ free → MatchOption result (Took [] (meaning P.Stepping self.old.parser) (meaning P.Stepping self.new.parser)) (λ x. Moves self.old.contexts (stack self.old.contexts self.old.depth) none (lexeme' lexeme.now) free (meaning P.Stepping self.old.parser) (meaning P.Stepping self.new.parser) (alone self.old.depth x)) }
         ensures beside { Beside self.old self.new }
     {
         match self.parser.take(lexeme.kind) {

@@ -83,7 +83,7 @@ impl<P: Stepping> Resolver<P> {
         lexeme: &Lexeme,
         free: usize,
     ) -> Option<Result<(), Reason>>
-        ensures { MatchOption result (Took [] (meaning P.Stepping.language P.Stepping.reach P.Probing.remainder P.Stepping.left P.Stepping.saved self.old.parser) (meaning P.Stepping.language P.Stepping.reach P.Probing.remainder P.Stepping.left P.Stepping.saved self.new.parser) × (standing self.new ≡ standing self.old)) (λ x. Fed (meaning P.Stepping.language P.Stepping.reach P.Probing.remainder P.Stepping.left P.Stepping.saved self.old.parser) (standing self.old) number lexeme.now free (meaning P.Stepping.language P.Stepping.reach P.Probing.remainder P.Stepping.left P.Stepping.saved self.new.parser) (standing self.new) (alone self.old.depth x)) }
+        ensures { MatchOption result (Took [] (meaning P.Stepping self.old.parser) (meaning P.Stepping self.new.parser) × (standing self.new ≡ standing self.old)) (λ x. Fed (meaning P.Stepping self.old.parser) (standing self.old) number lexeme.now free (meaning P.Stepping self.new.parser) (standing self.new) (alone self.old.depth x)) }
     {
         if !self.is_direct(number, lexeme, free) {
             return None;
@@ -107,7 +107,7 @@ impl<P: Stepping> Resolver<P> {
         lexeme: Lexeme,
         free: usize,
     ) -> Result<Draft, Reason>
-        ensures { Fed (meaning P.Stepping.language P.Stepping.reach P.Probing.remainder P.Stepping.left P.Stepping.saved self.old.parser) (standing self.old) number lexeme free (meaning P.Stepping.language P.Stepping.reach P.Probing.remainder P.Stepping.left P.Stepping.saved self.new.parser) (standing self.new) result }
+        ensures { Fed (meaning P.Stepping self.old.parser) (standing self.old) number lexeme free (meaning P.Stepping self.new.parser) (standing self.new) result }
     {
         if !self.is_open(number) {
             return Err(Reason::WrongTicket);
@@ -129,7 +129,7 @@ impl<P: Stepping> Resolver<P> {
         end: Place,
         free: usize,
     ) -> Result<Draft, Reason>
-        ensures { Finished (meaning P.Stepping.language P.Stepping.reach P.Probing.remainder P.Stepping.left P.Stepping.saved self.old.parser) (standing self.old) number end free (meaning P.Stepping.language P.Stepping.reach P.Probing.remainder P.Stepping.left P.Stepping.saved self.new.parser) (standing self.new) result }
+        ensures { Finished (meaning P.Stepping self.old.parser) (standing self.old) number end free (meaning P.Stepping self.new.parser) (standing self.new) result }
     {
         if !self.is_open(number) {
             return Err(Reason::WrongTicket);

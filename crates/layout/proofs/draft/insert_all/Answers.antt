@@ -10,10 +10,11 @@ use Rattle.layout.proofs.Inserts.{inserting_all, inserting_more, inserting_none,
 use Rattle.layout.proofs.draft.insert_all.Given as given
 use Rattle.layout.proofs.draft.insert_all.Goals as goal
 use Rattle.layout.proofs.draft.insert_all.Goals.{After-take_token}
+use Rattle.parser.proofs.Bound.{means}
 
 -- the parser's meaning
 abbrev of : (g : given.Over) → g.row.P.Denot → Meaning
-of g p = meaning g.P.Stepping.language g.P.Stepping.reach g.P.Probing.remainder g.P.Stepping.left g.P.Stepping.saved p
+of g p = means g.P.Stepping g.P.Probing p
 
 -- the token of this turn
 abbrev token : (g : given.Over) (c : After-take_token g) → Insert

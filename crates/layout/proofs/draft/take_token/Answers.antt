@@ -1,12 +1,13 @@
 use Rattle.std.proofs.Common.{ℕ, Err, sym, ◌∙◌, subst}
 use Rattle.std.proofs.lemmas.Bool.{true≢false}
-use Rattle.parser.specs.Meaning.{Meaning, Takes, meaning}
+use Rattle.parser.specs.Meaning.{Meaning, Takes}
 use Rattle.parser.specs.declared.Refused.{Refused}
 use Rattle.parser.specs.declared.Refused.TheVariants.{NotViable, ReachSpent}
 use Rattle.parser.proofs.Meanings.{alike_refl}
 use Rattle.layout.specs.Drafts.{Step, not_viable, reach_spent, reason_of, taken_on, too_deep}
 use Rattle.layout.specs.Limits.{Room}
 use Rattle.layout.proofs.draft.take_token.Goals as goal
+use Rattle.parser.proofs.Bound.{means}
 
 pub returns-then-not-has_room : goal.returns-then-not-has_room
 returns-then-not-has_room g c = too_deep (λ room. true≢false (sym (c.has_room.ensures.1 room) ∙ c.if-not-has_room.true)) (alike_refl _)
@@ -21,7 +22,7 @@ refused_step kind depth m n ReachSpent room told = reach_spent room told.0 told.
 
 pub returns-in-Err : goal.returns-in-Err
 returns-in-Err g c =
-    let m = meaning g.P.Stepping.language g.P.Stepping.reach g.P.Probing.remainder g.P.Stepping.left g.P.Stepping.saved c.args.parser.now in
-    let n = meaning g.P.Stepping.language g.P.Stepping.reach g.P.Probing.remainder g.P.Stepping.left g.P.Stepping.saved c.take.new.self in
+    let m = means g.P.Stepping g.P.Probing c.args.parser.now in
+    let n = means g.P.Stepping g.P.Probing c.take.new.self in
     subst (λ x. Step c.args.kind c.args.blocks m n (Err x)) (sym c.reason_of.ensures)
     (refused_step c.args.kind c.args.blocks m n c.in-Err.refused (c.has_room.ensures.0 c.if-not-has_room.false) c.in-Err.ensures)

@@ -10,10 +10,11 @@ use Rattle.layout.proofs.Replaying.{Replaying, replaying_more, replaying_none}
 use Rattle.layout.proofs.SameRuns.{replayed_same}
 use Rattle.layout.proofs.journal.replay.Given as given
 use Rattle.layout.proofs.journal.replay.Goals as goal
+use Rattle.parser.proofs.Bound.{means}
 
 -- the parser's meaning
 abbrev of : (g : given.Over) → g.row.P.Denot → Meaning
-of g p = meaning g.P.Stepping.language g.P.Stepping.reach g.P.Probing.remainder g.P.Stepping.left g.P.Stepping.saved p
+of g p = means g.P.Stepping g.P.Probing p
 
 pub loop-call-init : goal.loop-call-init
 loop-call-init g c =

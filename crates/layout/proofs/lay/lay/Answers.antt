@@ -16,10 +16,11 @@ use Rattle.layout.proofs.Stacks.{length_stack}
 use Rattle.layout.proofs.lay.lay.Given as given
 use Rattle.layout.proofs.lay.lay.Goals as goal
 use Rattle.layout.proofs.lay.lay.Goals.{After-insert_all, After-onward, After-rule_at-rule}
+use Rattle.parser.proofs.Bound.{means}
 
 -- the parser's meaning
 abbrev of : (g : given.Over) → g.row.P.Denot → Meaning
-of g p = meaning g.P.Stepping.language g.P.Stepping.reach g.P.Probing.remainder g.P.Stepping.left g.P.Stepping.saved p
+of g p = means g.P.Stepping g.P.Probing p
 
 -- the rule of this turn applies
 applies : (g : given.Over) (c : After-rule_at-rule g) → Applies (of g c.loop-inserted.parser).remainder [] c.loop-inserted.mark c.args.coming.now (contexts_of c.args.contexts.now c.loop-inserted.draft) c.rule_at-rule.result

@@ -1,19 +1,20 @@
 use Rattle.std.proofs.Common.{◌≡◌, ◌+◌, false, [], get_or, drop, sym, refl, subst, arith}
 use borrow.Author.Tests.{both_ways}
 use Rattle.std.proofs.lemmas.List.{drop_more, drop_all}
-use Rattle.parser.specs.Meaning.{Meaning, Alike, meaning}
+use Rattle.parser.specs.Meaning.{Meaning, Alike}
 use Rattle.parser.specs.Runs.{Agree, Answers, Made, next}
 use Rattle.parser.specs.declared.runs.Call.TheVariants.{Viable}
+use Rattle.parser.proofs.Bound.{means}
 use Rattle.parser.proofs.ForEver.{for_ever, agree_back, agree_on, stay_alike, made_on, made_apart, not_agreed, not_alike}
 use Rattle.parser.proofs.Meanings.{alike_refl}
 use Rattle.parser.proofs.runs.agree.Given as given
 use Rattle.parser.proofs.runs.agree.Goals as goal
 
 abbrev left : (g : given.Over) → g.row.P.Denot → Meaning
-left g = meaning g.P.Stepping.language g.P.Stepping.reach g.P.Probing.remainder g.P.Stepping.left g.P.Stepping.saved
+left g = means g.P.Stepping g.P.Probing
 
 abbrev right : (g : given.Over) → g.row.Q.Denot → Meaning
-right g = meaning g.Q.Stepping.language g.Q.Stepping.reach g.Q.Probing.remainder g.Q.Stepping.left g.Q.Stepping.saved
+right g = means g.Q.Stepping g.Q.Probing
 
 pub returns-then-not-same : goal.returns-then-not-same
 returns-then-not-same g c =

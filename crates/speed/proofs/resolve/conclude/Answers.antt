@@ -9,10 +9,11 @@ use Rattle.whole.proofs.Endings.{refused_open}
 use Rattle.speed.proofs.Resolving.{closes_finished, closes_given_up, closes_unfinished}
 use Rattle.speed.proofs.resolve.conclude.Given as given
 use Rattle.speed.proofs.resolve.conclude.Goals as goal
+use Rattle.parser.proofs.Bound.{means}
 
 -- the parser's meaning
 abbrev of : (g : given.Over) → g.row.P.Denot → Meaning
-of g p = meaning g.P.Stepping.language g.P.Stepping.reach g.P.Probing.remainder g.P.Stepping.left g.P.Stepping.saved p
+of g p = means g.P.Stepping g.P.Probing p
 
 pub returns-then-tally : goal.returns-then-tally
 returns-then-tally g c = closes_given_up c.args.end c.args.tally c.if-tally.true c.requires.sheet c.give_up.ensures

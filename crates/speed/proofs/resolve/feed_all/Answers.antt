@@ -15,10 +15,11 @@ use Rattle.speed.specs.Tallies.{Adds}
 use Rattle.speed.proofs.Feeds.{adds_stop, end_place, read_end, read_on, readings_none}
 use Rattle.speed.proofs.resolve.feed_all.Given as given
 use Rattle.speed.proofs.resolve.feed_all.Goals as goal
+use Rattle.parser.proofs.Bound.{means}
 
 -- the parser's meaning
 abbrev of : (g : given.Over) → g.row.P.Denot → Meaning
-of g p = meaning g.P.Stepping.language g.P.Stepping.reach g.P.Probing.remainder g.P.Stepping.left g.P.Stepping.saved p
+of g p = means g.P.Stepping g.P.Probing p
 
 pub loop-reader-init : goal.loop-reader-init
 loop-reader-init g c =

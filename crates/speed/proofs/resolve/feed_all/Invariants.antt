@@ -6,10 +6,11 @@ use Rattle.layout.specs.Calling.{standing}
 use Rattle.speed.specs.Resolved.{readable}
 use Rattle.speed.proofs.Feeds.{Readings}
 use Rattle.speed.proofs.resolve.feed_all.Given as goal
+use Rattle.parser.proofs.Bound.{means}
 
 -- the parser's meaning
 abbrev of : (g : goal.Over) → g.row.P.Denot → Meaning
-of g p = meaning g.P.Stepping.language g.P.Stepping.reach g.P.Probing.remainder g.P.Stepping.left g.P.Stepping.saved p
+of g p = means g.P.Stepping g.P.Probing p
 
 abbrev pub invariant-loop-reader : goal.invariant-loop-reader
 invariant-loop-reader g l =

@@ -5,10 +5,11 @@ use Rattle.layout.specs.Calling.{standing}
 use Rattle.speed.proofs.Feeds.{sofar_all, sofar_more, sofar_none}
 use Rattle.speed.proofs.resolve.feed_waiting.Given as given
 use Rattle.speed.proofs.resolve.feed_waiting.Goals as goal
+use Rattle.parser.proofs.Bound.{means}
 
 -- the parser's meaning
 abbrev of : (g : given.Over) → g.row.P.Denot → Meaning
-of g p = meaning g.P.Stepping.language g.P.Stepping.reach g.P.Probing.remainder g.P.Stepping.left g.P.Stepping.saved p
+of g p = means g.P.Stepping g.P.Probing p
 
 pub loop-lexeme-init : goal.loop-lexeme-init
 loop-lexeme-init g c = let r = c.args.resolver.now in (c.requires.empty, c.requires.places, refl, sofar_none (of g r.parser) (standing r) c.args.ticket.now.number (waiting c.args.lexemes.now) c.args.tally.now)

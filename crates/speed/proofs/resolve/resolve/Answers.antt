@@ -9,10 +9,11 @@ use Rattle.speed.specs.Resolved.{readable}
 use Rattle.speed.proofs.Resolving.{can_begin, resolved}
 use Rattle.speed.proofs.resolve.resolve.Given as given
 use Rattle.speed.proofs.resolve.resolve.Goals as goal
+use Rattle.parser.proofs.Bound.{means}
 
 -- the parser's meaning
 abbrev of : (g : given.Over) → g.row.P.Denot → Meaning
-of g p = meaning g.P.Stepping.language g.P.Stepping.reach g.P.Probing.remainder g.P.Stepping.left g.P.Stepping.saved p
+of g p = means g.P.Stepping g.P.Probing p
 
 pub unwrap-ticket-requires : goal.unwrap-ticket-requires
 unwrap-ticket-requires g c = can_begin c.begin.result c.requires c.begin.ensures.does

@@ -13,10 +13,11 @@ use Rattle.whole.proofs.Feeds.{keeps_few, within_on}
 use Rattle.whole.proofs.Reading.{end_place, keeps_stop, read_end, read_from, read_on, readings_none}
 use Rattle.whole.proofs.feeding.feed_all.Given as given
 use Rattle.whole.proofs.feeding.feed_all.Goals as goal
+use Rattle.parser.proofs.Bound.{means}
 
 -- the parser's meaning
 abbrev of : (g : given.Over) → g.row.P.Denot → Meaning
-of g p = meaning g.P.Stepping.language g.P.Stepping.reach g.P.Probing.remainder g.P.Stepping.left g.P.Stepping.saved p
+of g p = means g.P.Stepping g.P.Probing p
 
 pub loop-reader-init : goal.loop-reader-init
 loop-reader-init g c =

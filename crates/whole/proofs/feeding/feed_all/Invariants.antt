@@ -5,10 +5,11 @@ use Rattle.reader.specs.Reading.{offset_of, text_of}
 use Rattle.layout.specs.Calling.{standing}
 use Rattle.whole.proofs.Reading.{Readings}
 use Rattle.whole.proofs.feeding.feed_all.Given as goal
+use Rattle.parser.proofs.Bound.{means}
 
 -- the parser's meaning
 abbrev of : (g : goal.Over) → g.row.P.Denot → Meaning
-of g p = meaning g.P.Stepping.language g.P.Stepping.reach g.P.Probing.remainder g.P.Stepping.left g.P.Stepping.saved p
+of g p = means g.P.Stepping g.P.Probing p
 
 abbrev pub invariant-loop-reader : goal.invariant-loop-reader
 invariant-loop-reader g l =

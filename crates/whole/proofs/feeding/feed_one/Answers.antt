@@ -7,10 +7,11 @@ use Rattle.whole.specs.Whole.{places}
 use Rattle.whole.proofs.Feeds.{one_accepted, one_refused, one_within, refused_empty}
 use Rattle.whole.proofs.feeding.feed_one.Given as given
 use Rattle.whole.proofs.feeding.feed_one.Goals as goal
+use Rattle.parser.proofs.Bound.{means}
 
 -- the parser's meaning
 abbrev of : (g : given.Over) → g.row.P.Denot → Meaning
-of g p = meaning g.P.Stepping.language g.P.Stepping.reach g.P.Probing.remainder g.P.Stepping.left g.P.Stepping.saved p
+of g p = means g.P.Stepping g.P.Probing p
 
 pub returns-in-Ok : goal.returns-in-Ok
 returns-in-Ok g c =

@@ -4,10 +4,11 @@ use Rattle.queue.specs.Waiting.{capacity, waiting}
 use Rattle.layout.specs.Calling.{standing}
 use Rattle.whole.proofs.Feeds.{Sofar}
 use Rattle.whole.proofs.feeding.feed_waiting.Given as goal
+use Rattle.parser.proofs.Bound.{means}
 
 -- the parser's meaning
 abbrev of : (g : goal.Over) → g.row.P.Denot → Meaning
-of g p = meaning g.P.Stepping.language g.P.Stepping.reach g.P.Probing.remainder g.P.Stepping.left g.P.Stepping.saved p
+of g p = means g.P.Stepping g.P.Probing p
 
 abbrev pub invariant-loop-lexeme : goal.invariant-loop-lexeme
 invariant-loop-lexeme g l =

@@ -10,10 +10,11 @@ use Rattle.whole.specs.Whole.{outcome}
 use Rattle.whole.proofs.Endings.{ended_given_up}
 use Rattle.whole.proofs.sheet_run.conclude.Given as given
 use Rattle.whole.proofs.sheet_run.conclude.Goals as goal
+use Rattle.parser.proofs.Bound.{means}
 
 -- the parser's meaning
 abbrev of : (g : given.Over) → g.row.P.Denot → Meaning
-of g p = meaning g.P.Stepping.language g.P.Stepping.reach g.P.Probing.remainder g.P.Stepping.left g.P.Stepping.saved p
+of g p = means g.P.Stepping g.P.Probing p
 
 pub finish-requires : goal.finish-requires
 finish-requires g c =

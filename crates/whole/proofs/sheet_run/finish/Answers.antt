@@ -10,10 +10,11 @@ use Rattle.whole.specs.Whole.{places}
 use Rattle.whole.proofs.Endings.{ended_finished, ended_unfinished, finish_shut, refused_open, refused_same, then_shut}
 use Rattle.whole.proofs.sheet_run.finish.Given as given
 use Rattle.whole.proofs.sheet_run.finish.Goals as goal
+use Rattle.parser.proofs.Bound.{means}
 
 -- the parser's meaning
 abbrev of : (g : given.Over) → g.row.P.Denot → Meaning
-of g p = meaning g.P.Stepping.language g.P.Stepping.reach g.P.Probing.remainder g.P.Stepping.left g.P.Stepping.saved p
+of g p = means g.P.Stepping g.P.Probing p
 
 pub returns-in_err-drain-in-Ok : goal.returns-in_err-drain-in-Ok
 returns-in_err-drain-in-Ok g c = record { ends = search rules; shut = finish_shut c.in-Ok.ensures.writes }

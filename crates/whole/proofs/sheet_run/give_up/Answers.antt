@@ -6,10 +6,11 @@ use Rattle.layout.specs.declared.ticket.Refusal.{Refusal}
 use Rattle.whole.proofs.Endings.{can_give_up, gives_shut}
 use Rattle.whole.proofs.sheet_run.give_up.Given as given
 use Rattle.whole.proofs.sheet_run.give_up.Goals as goal
+use Rattle.parser.proofs.Bound.{means}
 
 -- the parser's meaning
 abbrev of : (g : given.Over) → g.row.P.Denot → Meaning
-of g p = meaning g.P.Stepping.language g.P.Stepping.reach g.P.Probing.remainder g.P.Stepping.left g.P.Stepping.saved p
+of g p = means g.P.Stepping g.P.Probing p
 
 pub unwrap-requires : goal.unwrap-requires
 unwrap-requires g c = can_give_up c.give_up.result c.requires c.give_up.ensures.calls.does

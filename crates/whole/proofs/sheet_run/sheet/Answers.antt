@@ -7,10 +7,11 @@ use Rattle.whole.proofs.Feeds.{same_on}
 use Rattle.whole.proofs.Sheets.{begun_open, begun_parser, begun_shut, comes_begun, comes_not_begun, lawful, not_begun_parser, not_begun_sheet}
 use Rattle.whole.proofs.sheet_run.sheet.Given as given
 use Rattle.whole.proofs.sheet_run.sheet.Goals as goal
+use Rattle.parser.proofs.Bound.{means}
 
 -- the parser's meaning
 abbrev of : (g : given.Over) → g.row.P.Denot → Meaning
-of g p = meaning g.P.Stepping.language g.P.Stepping.reach g.P.Probing.remainder g.P.Stepping.left g.P.Stepping.saved p
+of g p = means g.P.Stepping g.P.Probing p
 
 pub run-requires : goal.run-requires
 run-requires g c =

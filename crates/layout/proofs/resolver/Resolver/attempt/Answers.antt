@@ -7,10 +7,11 @@ use Rattle.layout.specs.Moves.{Attempts}
 use Rattle.layout.proofs.Moving.{attempt_fits, attempt_no_room, attempt_not_whole, attempt_stopped}
 use Rattle.layout.proofs.resolver.Resolver.attempt.Given as given
 use Rattle.layout.proofs.resolver.Resolver.attempt.Goals as goal
+use Rattle.parser.proofs.Bound.{means}
 
 -- the parser's meaning
 abbrev of : (g : given.Over) → g.row.P.Denot → Meaning
-of g p = meaning g.P.Stepping.language g.P.Stepping.reach g.P.Probing.remainder g.P.Stepping.left g.P.Stepping.saved p
+of g p = means g.P.Stepping g.P.Probing p
 
 pub returns-in_err-draft : goal.returns-in_err-draft
 returns-in_err-draft g c =

@@ -4,10 +4,11 @@ use Rattle.layout.specs.declared.rule.Before.TheVariants.{Nothing}
 use Rattle.layout.proofs.Answered.{begins_new, begins_open, begins_spent}
 use Rattle.layout.proofs.resolver.Resolver.begin.Given as given
 use Rattle.layout.proofs.resolver.Resolver.begin.Goals as goal
+use Rattle.parser.proofs.Bound.{means}
 
 -- the parser's meaning
 abbrev of : (g : given.Over) → g.row.P.Denot → Meaning
-of g p = meaning g.P.Stepping.language g.P.Stepping.reach g.P.Probing.remainder g.P.Stepping.left g.P.Stepping.saved p
+of g p = means g.P.Stepping g.P.Probing p
 
 pub returns-then-is_some : goal.returns-then-is_some
 returns-then-is_some g c =

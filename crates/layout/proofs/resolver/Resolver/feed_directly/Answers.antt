@@ -12,10 +12,11 @@ use Rattle.layout.proofs.Sheets.{beside_standing, fed_accepted, fed_refused}
 use Rattle.layout.proofs.resolver.Resolver.feed_directly.Given as given
 use Rattle.layout.proofs.resolver.Resolver.feed_directly.Goals as goal
 use Rattle.layout.proofs.resolver.Resolver.feed_directly.Goals.{In-Some}
+use Rattle.parser.proofs.Bound.{means}
 
 -- the parser's meaning
 abbrev of : (g : given.Over) → g.row.P.Denot → Meaning
-of g p = meaning g.P.Stepping.language g.P.Stepping.reach g.P.Probing.remainder g.P.Stepping.left g.P.Stepping.saved p
+of g p = means g.P.Stepping g.P.Probing p
 
 -- what was taken, at the mark that the lexeme has
 moved : (g : given.Over) (c : In-Some g) (x : Result (Unit {0}) Reason) → c.in-Some.taken ≡ x

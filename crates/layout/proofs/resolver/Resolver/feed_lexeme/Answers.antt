@@ -12,10 +12,11 @@ use Rattle.layout.specs.declared.rule.Mark.{Mark}
 use Rattle.layout.proofs.Sheets.{beside_standing, fed_accepted, fed_bad, fed_refused, fed_wrong, moves_sound}
 use Rattle.layout.proofs.resolver.Resolver.feed_lexeme.Given as given
 use Rattle.layout.proofs.resolver.Resolver.feed_lexeme.Goals as goal
+use Rattle.parser.proofs.Bound.{means}
 
 -- the parser's meaning
 abbrev of : (g : given.Over) → g.row.P.Denot → Meaning
-of g p = meaning g.P.Stepping.language g.P.Stepping.reach g.P.Probing.remainder g.P.Stepping.left g.P.Stepping.saved p
+of g p = means g.P.Stepping g.P.Probing p
 
 pub returns-then-not-is_open : goal.returns-then-not-is_open
 returns-then-not-is_open g c =

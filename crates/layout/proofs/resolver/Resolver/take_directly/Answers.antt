@@ -6,10 +6,11 @@ use Rattle.layout.specs.Drafts.{empty}
 use Rattle.layout.proofs.Direct.{direct_spent, direct_taken, direct_unviable, took_same}
 use Rattle.layout.proofs.resolver.Resolver.take_directly.Given as given
 use Rattle.layout.proofs.resolver.Resolver.take_directly.Goals as goal
+use Rattle.parser.proofs.Bound.{means}
 
 -- the parser's meaning
 abbrev of : (g : given.Over) → g.row.P.Denot → Meaning
-of g p = meaning g.P.Stepping.language g.P.Stepping.reach g.P.Probing.remainder g.P.Stepping.left g.P.Stepping.saved p
+of g p = means g.P.Stepping g.P.Probing p
 
 pub returns-in-Ok : goal.returns-in-Ok
 returns-in-Ok g c =

@@ -9,10 +9,11 @@ use Rattle.layout.proofs.Queues.{put_list}
 use Rattle.layout.proofs.ticket.Ticket.feed.Given as given
 use Rattle.layout.proofs.ticket.Ticket.feed.Goals as goal
 use Rattle.layout.proofs.ticket.Ticket.feed.Goals.{In-Some}
+use Rattle.parser.proofs.Bound.{means}
 
 -- the parser's meaning
 abbrev of : (g : given.Over) → g.row.P.Denot → Meaning
-of g p = meaning g.P.Stepping.language g.P.Stepping.reach g.P.Probing.remainder g.P.Stepping.left g.P.Stepping.saved p
+of g p = means g.P.Stepping g.P.Probing p
 
 -- what came of the lexeme alone
 fed : (g : given.Over) (c : In-Some g) (x : Result (Unit {0}) Reason) → c.in-Some.fed ≡ x

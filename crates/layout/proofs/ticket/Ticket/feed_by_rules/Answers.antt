@@ -5,10 +5,11 @@ use Rattle.layout.specs.Calling.{Fed, standing}
 use Rattle.layout.proofs.Answered.{fed_denied, fed_room, fed_writes}
 use Rattle.layout.proofs.ticket.Ticket.feed_by_rules.Given as given
 use Rattle.layout.proofs.ticket.Ticket.feed_by_rules.Goals as goal
+use Rattle.parser.proofs.Bound.{means}
 
 -- the parser's meaning
 abbrev of : (g : given.Over) → g.row.P.Denot → Meaning
-of g p = meaning g.P.Stepping.language g.P.Stepping.reach g.P.Probing.remainder g.P.Stepping.left g.P.Stepping.saved p
+of g p = means g.P.Stepping g.P.Probing p
 
 pub write-requires : goal.write-requires
 write-requires g c =

@@ -7,10 +7,11 @@ use Rattle.layout.specs.declared.call.Call.TheVariants.{GiveUp}
 use Rattle.layout.proofs.Answered.{gives_up_open, gives_up_wrong}
 use Rattle.layout.proofs.ticket.Ticket.give_up.Given as given
 use Rattle.layout.proofs.ticket.Ticket.give_up.Goals as goal
+use Rattle.parser.proofs.Bound.{means}
 
 -- the parser's meaning
 abbrev of : (g : given.Over) → g.row.P.Denot → Meaning
-of g p = meaning g.P.Stepping.language g.P.Stepping.reach g.P.Probing.remainder g.P.Stepping.left g.P.Stepping.saved p
+of g p = means g.P.Stepping g.P.Probing p
 
 pub returns-then-not-is_open : goal.returns-then-not-is_open
 returns-then-not-is_open g c =

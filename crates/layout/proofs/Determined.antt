@@ -3,8 +3,9 @@ use Rattle.std.proofs.Common.{◌≡◌, ℕ, List, [], ◌∷◌, ◌++◌, map
 use Rattle.std.proofs.lemmas.Bool.{false≢true, true≢false}
 use Rattle.parser.specs.Sets.{Lists, Same}
 use Rattle.sheet.specs.declared.fault.Reason.{Reason}
+use Rattle.sheet.specs.Tokens.{written}
 use Rattle.layout.specs.Limits.{Goes, Laid, Runs, and_before, done, ends, goes, goes_on, is_undefined, not_viable, reach_spent, refuses, stops, too_deep, writes}
-use Rattle.layout.specs.Marks.{column, inserted, written}
+use Rattle.layout.specs.Marks.{column, inserted}
 use Rattle.layout.specs.Rules.{Applies, MustClose, Viable, block_left_open, close_at_end, close_on_error, close_shallower, close_typed, drop_deeper, drop_outside, empty_block, end, inserts, leaves, onward, open_block, open_typed, separate, stray_close, write_lexeme}
 use Rattle.layout.specs.declared.rule.Coming.{Coming}
 use Rattle.layout.specs.declared.rule.Mark.{Mark}

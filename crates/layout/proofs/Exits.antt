@@ -9,10 +9,11 @@ use Rattle.sheet.specs.declared.fault.Reason.{Reason}
 use Rattle.sheet.specs.declared.lexeme.Lexeme.{Lexeme}
 use Rattle.sheet.specs.declared.lexeme.Place.{Place}
 use Rattle.sheet.specs.declared.lexeme.Token.{Token}
+use Rattle.sheet.specs.Tokens.{written}
 use Rattle.layout.specs.Drafts.{Bound, Laying, Step, contexts_of, laid, stopped, tokens_of}
 use Rattle.layout.specs.Layout.{kinds}
 use Rattle.layout.specs.Limits.{done, ends, is_undefined, refuses, undefined_at, writes}
-use Rattle.layout.specs.Marks.{column, inserted, kind, written}
+use Rattle.layout.specs.Marks.{column, inserted, kind}
 use Rattle.layout.specs.Rules.{Applies, block_left_open, close_at_end, close_on_error, close_shallower, close_typed, drop_deeper, drop_outside, empty_block, end, leaves, onward, open_block, open_typed, separate, stray_close, write_lexeme}
 use Rattle.layout.specs.declared.draft.Draft.{Draft}
 use Rattle.layout.specs.declared.rule.Coming.{Coming}

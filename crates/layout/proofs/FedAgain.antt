@@ -6,11 +6,12 @@ use Rattle.parser.specs.Sets.{Lists}
 use Rattle.sheet.specs.declared.lexeme.Lexeme.{Lexeme}
 use Rattle.sheet.specs.declared.lexeme.Place.{Place}
 use Rattle.sheet.specs.declared.lexeme.Token.{Token}
+use Rattle.sheet.specs.Tokens.{written}
 use Rattle.layout.specs.Law.{Again, Feeding, unchanged}
 use Rattle.layout.specs.Law as law
 use Rattle.layout.specs.Layout.{kinds}
 use Rattle.layout.specs.Limits.{Goes, Laid, Runs, done, ends, goes, goes_on, writes}
-use Rattle.layout.specs.Marks.{after, end_mark, opens_block, written}
+use Rattle.layout.specs.Marks.{after, end_mark, opens_block}
 use Rattle.layout.specs.Rules.{MustClose, Viable, close_typed, drop_deeper, drop_outside, end, open_typed, write_lexeme}
 use Rattle.layout.specs.Service.{Does, Run, State, feeds, finishes, more, none}
 use Rattle.layout.specs.declared.call.Answer.TheVariants.{Count as count}

@@ -7,8 +7,9 @@ use Rattle.std.proofs.lemmas.List.{append_assoc, length-map, map-append}
 use Rattle.std.proofs.lemmas.Bool.{false≢true, true≢false}
 use Rattle.sheet.specs.declared.lexeme.Lexeme.{Lexeme}
 use Rattle.sheet.specs.declared.lexeme.Place.{Place}
+use Rattle.sheet.specs.Tokens.{written}
 use Rattle.layout.specs.Drafts.{drafted_tokens, if_set, tokens_of}
-use Rattle.layout.specs.Marks.{inserted, is_end, written}
+use Rattle.layout.specs.Marks.{inserted, is_end}
 use Rattle.layout.specs.declared.draft.Draft.{Draft}
 use Rattle.layout.specs.declared.rule.Coming.{Coming}
 use Rattle.layout.specs.declared.rule.Coming.TheVariants.{Lexeme as lexeme, End as ending}

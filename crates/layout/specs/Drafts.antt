@@ -8,10 +8,11 @@ use Rattle.parser.specs.declared.Refused.TheVariants.{NotViable as Unviable, Rea
 use Rattle.sheet.specs.declared.fault.Reason.{Reason}
 use Rattle.sheet.specs.declared.fault.Reason.TheVariants.{TooDeep, NotViable, ReachSpent}
 use Rattle.sheet.specs.declared.lexeme.Token.{Token}
+use Rattle.sheet.specs.Tokens.{written}
 use Rattle.layout.specs.Contexts.{stack}
 use Rattle.layout.specs.Layout.{kinds}
 use Rattle.layout.specs.Limits.{Goes, Laid, Room, Runs}
-use Rattle.layout.specs.Marks.{inserted, written}
+use Rattle.layout.specs.Marks.{inserted}
 use Rattle.layout.specs.Rules.{insert_kind}
 use Rattle.layout.specs.declared.draft.Draft.{Draft}
 use Rattle.layout.specs.declared.rule.Coming.{Coming}

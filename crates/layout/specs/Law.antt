@@ -5,8 +5,8 @@ use Rattle.sheet.specs.declared.fault.Reason.TheVariants.{TooDeep, ReachSpent, N
 use Rattle.sheet.specs.declared.lexeme.Lexeme.{Lexeme}
 use Rattle.sheet.specs.declared.lexeme.Place.{Place}
 use Rattle.sheet.specs.declared.lexeme.Token.{Token}
+use Rattle.sheet.specs.Tokens.{written}
 use Rattle.layout.specs.Layout.{Turns, TurnsIntoSentence}
-use Rattle.layout.specs.Marks.{written}
 use Rattle.layout.specs.Service.{Does, Event, Run, State, new}
 use Rattle.layout.specs.declared.call.Answer.{Answer}
 use Rattle.layout.specs.declared.call.Answer.TheVariants.{Closed as closed, Count as count, Refused as refused, Ticket as ticket}

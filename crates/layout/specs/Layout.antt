@@ -4,7 +4,8 @@ use Rattle.parser.specs.Sets.{Lists}
 use Rattle.sheet.specs.declared.lexeme.Lexeme.{Lexeme}
 use Rattle.sheet.specs.declared.lexeme.Place.{Place}
 use Rattle.sheet.specs.declared.lexeme.Token.{Token}
-use Rattle.layout.specs.Marks.{after, column, end_mark, inserted, mark_of, written}
+use Rattle.sheet.specs.Tokens.{written}
+use Rattle.layout.specs.Marks.{after, column, end_mark, inserted, mark_of}
 use Rattle.layout.specs.Rules.{Applies, inserts, leaves, onward}
 use Rattle.layout.specs.declared.rule.Before.{Before}
 use Rattle.layout.specs.declared.rule.Before.TheVariants.{Nothing}

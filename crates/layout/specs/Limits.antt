@@ -6,7 +6,8 @@ use Rattle.sheet.specs.declared.fault.Reason.TheVariants.{StrayClose, TooDeep, N
 use Rattle.sheet.specs.declared.lexeme.Lexeme.{Lexeme}
 use Rattle.sheet.specs.declared.lexeme.Place.{Place}
 use Rattle.sheet.specs.declared.lexeme.Token.{Token}
-use Rattle.layout.specs.Marks.{column, inserted, written}
+use Rattle.sheet.specs.Tokens.{written}
+use Rattle.layout.specs.Marks.{column, inserted}
 use Rattle.layout.specs.Rules.{Applies, Viable, inserts, leaves, onward}
 use Rattle.layout.specs.declared.rule.Coming.{Coming}
 use Rattle.layout.specs.declared.rule.Coming.TheVariants.{Lexeme as lexeme, End as ending}

@@ -19,10 +19,6 @@ abbrev pub inserted : Coming → ℕ → Token
 inserted (lexeme l) k = record { kind = k; line = l.line; column = l.column; offset = 0; length = 0 }
 inserted (ending p) k = record { kind = k; line = p.line; column = p.column; offset = 0; length = 0 }
 
--- a lexeme as it is written: without its flag
-abbrev pub written : Lexeme → Token
-written l = record { kind = l.kind; line = l.line; column = l.column; offset = l.offset; length = l.length }
-
 -- let, where, of and do
 abbrev pub opens_block : ℕ → Bool
 opens_block k = k == 11 || k == 13 || k == 14 || k == 15

@@ -23,15 +23,6 @@ pub struct Journal {
     pub tokens: Vec<Token>,
 }
 
-// What a place of a queue holds before a token comes.
-const BLANK: Token = Token {
-    kind: 0,
-    line: 0,
-    column: 0,
-    offset: 0,
-    length: 0,
-};
-
 // At most so many places can be free for a call.
 const MOST_FREE: usize = 255;
 
@@ -111,7 +102,7 @@ fn note<P: Stepping>(
 ) -> Result<(), AllocError>
     ensures { OnOk result (Noted (meaning P.Stepping resolver.old.parser) (standing resolver.old) call journal.old.answers.items journal.new.answers.items journal.old.tokens.items journal.new.tokens.items (meaning P.Stepping resolver.new.parser) (standing resolver.new)) }
 {
-    let mut places = [BLANK; MOST_FREE];
+    let mut places = [Token::default(); MOST_FREE];
     let mut queue = Queue::new(&mut places[..usize::from(call.free())]);
     let answer = make(resolver, call, &mut queue);
     journal.answers.push(answer)?;

@@ -82,15 +82,9 @@ impl Before {
     pub fn after(kind: u32) -> Before
         ensures { result ≡ after kind }
     {
-        match Kind::from_number(kind) {
-            Some(kind) => {
-                if kind.opens_block() {
-                    Before::BlockKeyword
-                } else {
-                    Before::Other
-                }
-            }
-            None => Before::Other,
+        match Kind::try_from(kind) {
+            Ok(kind) if kind.opens_block() => Before::BlockKeyword,
+            _ => Before::Other,
         }
     }
 

@@ -1,14 +1,14 @@
 // Writes what a draft says into a queue, once it is known that all of it fits.
 ghost use Rattle.std.specs.Prelude.{◌≡◌, ◌-◌, ◌≤◌, ◌++◌, map, length, replicate};
-ghost use Rattle.queue.specs.Waiting.{capacity, room, waiting};
+ghost use Rattle.queue.specs.Waiting.{room, SamePlaces, waiting};
 ghost use Rattle.layout.specs.Drafts.{drafted_tokens, tokens_of};
-ghost use Rattle.layout.specs.Marks.{inserted, written};
+ghost use Rattle.layout.specs.Marks.{inserted};
 ghost use Rattle.layout.specs.Rules.{insert_kind};
 
 use crate::draft::Draft;
 use crate::rule::{Coming, Insert};
 use queue::Queue;
-use sheet::{Lexeme, Token};
+use sheet::Token;
 
 impl Coming {
     // A token that is inserted before what comes: it has its place, and no bytes of the text.
@@ -29,26 +29,12 @@ impl Coming {
     }
 }
 
-// A lexeme as it is written: without its flag.
-pub fn without_flag(lexeme: &Lexeme) -> Token
-    ensures { result ≡ written lexeme.now }
-{
-    Token {
-        kind: lexeme.kind,
-        line: lexeme.line,
-        column: lexeme.column,
-        offset: lexeme.offset,
-        length: lexeme.length,
-    }
-}
-
 // Puts a token so many times.
 fn put_times(queue: &mut Queue<'_, Token>, token: Token, times: u32)
     requires { times ≤ room queue.old }
     ensures list { waiting queue.new ≡ waiting queue.old ++ replicate times token }
     ensures left { room queue.new ≡ room queue.old - times }
-    ensures size { capacity queue.new ≡ capacity queue.old }
-    ensures lender { queue.new.places.ghost_name ≡ queue.old.places.ghost_name }
+    ensures places { SamePlaces queue.old queue.new }
 {
     for _ in 0..times {
         let _ = queue.put(token);
@@ -61,8 +47,7 @@ impl Draft {
         requires { length (tokens_of self) ≤ room queue.old }
         ensures list { waiting queue.new ≡ waiting queue.old ++ map (inserted coming.now) (tokens_of self) }
         ensures left { room queue.new ≡ room queue.old - length (tokens_of self) }
-        ensures size { capacity queue.new ≡ capacity queue.old }
-        ensures lender { queue.new.places.ghost_name ≡ queue.old.places.ghost_name }
+        ensures places { SamePlaces queue.old queue.new }
     {
         let close = coming.inserted(Insert::Close);
         put_times(queue, coming.inserted(Insert::Open), u32::from(self.brace));
@@ -79,12 +64,11 @@ impl Draft {
     pub fn write(self, coming: &Coming, queue: &mut Queue<'_, Token>)
         requires { length (drafted_tokens coming.now self) ≤ room queue.old }
         ensures list { waiting queue.new ≡ waiting queue.old ++ drafted_tokens coming.now self }
-        ensures size { capacity queue.new ≡ capacity queue.old }
-        ensures lender { queue.new.places.ghost_name ≡ queue.old.places.ghost_name }
+        ensures places { SamePlaces queue.old queue.new }
     {
         self.write_inserted(coming, queue);
         if let Coming::Lexeme(lexeme) = coming {
-            let _ = queue.put(without_flag(lexeme));
+            let _ = queue.put(Token::from(*lexeme));
         }
     }
 }

@@ -2,8 +2,9 @@
 use Rattle.std.proofs.Common.{◌≡◌, ℕ, zero, suc, ◌+◌, ◌<◌, ◌≤◌, false, List, [], ◌∷◌, ◌++◌, map, length, is_some, is_ok, Some, None, Ok, Err, Option, Result, sym, refl, ap, ◌∙◌, subst, append_assoc, arith}
 use Rattle.std.proofs.lemmas.List.{append-nil, length_push, map_push}
 use Rattle.std.proofs.lemmas.Bool.{true≢false}
-use Rattle.queue.specs.Waiting.{capacity, room, waiting}
+use Rattle.queue.specs.Waiting.{room, SamePlaces, waiting}
 use Rattle.queue.specs.declared.ring.Queue.{Queue}
+use Rattle.queue.proofs.Laws.{same_places, same_places_on}
 use Rattle.sheet.specs.declared.fault.Fault.{Fault}
 use Rattle.sheet.specs.declared.lexeme.Lexeme.{Lexeme}
 use Rattle.reader.specs.Items.{Item, good, bad, items}
@@ -37,8 +38,7 @@ pub record Sofar (r : Reader) (q : Queue Lexeme) (s : Reader) (p : Queue Lexeme)
   pub free : room q ≡ room p + length ls
   pub told : items (text_of r) (offset_of r) ≡ map good ls ++ items (text_of r) (offset_of s)
   pub few : count ≤ offset_of s
-  pub size : capacity p ≡ capacity q
-  pub lender : p.places.ghost_name ≡ q.places.ghost_name
+  pub places : SamePlaces q p
 
 -- a reading comes out as the definition says: its answer, what then waits, and where the next one goes on
 pub record Outcome (r : Reader) (q : Queue Lexeme) (a : Result ℕ Stop) (list : List Lexeme) (next : ℕ) : Type 0 where
@@ -95,8 +95,8 @@ module _ {r : Reader} {q : Queue Lexeme} {s : Reader} {p : Queue Lexeme} {count 
 
   -- one lexeme more, up to where the next item may stand
   pub one_more : (l : Lexeme) (s' : Reader) (p' : Queue Lexeme) → text_of s' ≡ text_of s → items (text_of r) (offset_of s) ≡ good l ∷ items (text_of r) (offset_of s') → offset_of s < offset_of s'
-      → waiting p' ≡ waiting p ++ l ∷ [] → room p ≡ room p' + 1 → capacity p' ≡ capacity p → p'.places.ghost_name ≡ p.places.ghost_name → Sofar r q s' p' (count + 1)
-  one_more l s' p' text told further list free size lender =
+      → waiting p' ≡ waiting p ++ l ∷ [] → room p ≡ room p' + 1 → SamePlaces p p' → Sofar r q s' p' (count + 1)
+  one_more l s' p' text told further list free places =
       record {
         ls = sofar.ls ++ l ∷ [];
         text = text ∙ sofar.text;
@@ -105,6 +105,5 @@ module _ {r : Reader} {q : Queue Lexeme} {s : Reader} {p : Queue Lexeme} {count 
         free = omega (arith, length_push sofar.ls l, sofar.free);
         told = sofar.told ∙ ap (λ x. map good sofar.ls ++ x) told ∙ sym (append_assoc (map good sofar.ls) (good l ∷ []) _) ∙ ap (λ x. x ++ items (text_of r) (offset_of s')) (sym (map_push good sofar.ls l));
         few = omega (arith, sofar.few);
-        size = size ∙ sofar.size;
-        lender = lender ∙ sofar.lender;
+        places = same_places_on sofar.places places;
       }

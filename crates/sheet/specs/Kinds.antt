@@ -1,6 +1,7 @@
 -- The fifteen kinds and their numbers. Assumes nothing.
-use Rattle.std.specs.Prelude.{◌≡◌, ℕ, Bool, true, false, Some, None, Option, ◌≢◌}
+use Rattle.std.specs.Prelude.{◌≡◌, ℕ, Bool, true, false, Ok, Err, Result, ◌≢◌}
 use Rattle.sheet.specs.declared.lexeme.Kind.{Kind}
+use Rattle.sheet.specs.declared.lexeme.NoKind.{NoKind}
 use Rattle.sheet.specs.declared.lexeme.Kind.TheVariants.{Name, Number, OpenBrace, CloseBrace, Semicolon, OpenParen, CloseParen, Equals, Comma, Operator, Let, In, Where, Of, Do}
 
 -- the number of each kind
@@ -39,7 +40,7 @@ opens Where = true
 opens Of = true
 opens Do = true
 
--- the kind that has the number, or none where no kind has it
-abbrev pub Numbered : ℕ → Option Kind → Type 0
-Numbered n None = (k : Kind) → kind_number k ≢ n
-Numbered n (Some k) = kind_number k ≡ n
+-- the kind that has the number, or a refusal where no kind has it
+abbrev pub Numbered : ℕ → Result Kind NoKind → Type 0
+Numbered n (Ok k) = kind_number k ≡ n
+Numbered n (Err e) = (k : Kind) → kind_number k ≢ n

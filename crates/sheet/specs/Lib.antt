@@ -1,3 +1,4 @@
 pub mod Faults
 pub mod Kinds
 pub mod Shown
+pub mod Tokens

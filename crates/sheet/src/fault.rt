@@ -1,49 +1,49 @@
 // Why a sheet, or a call for it, is refused, and where.
 ghost use Rattle.std.specs.Prelude.{◌≡◌, Some};
 ghost use Rattle.sheet.specs.Faults.{known, layer_number};
-ghost use Rattle.sheet.specs.Shown.{fault_text};
+ghost use Rattle.sheet.specs.Shown.{context_text, fault_text};
 
 use std::fmt;
 
-// The layer that refuses.
+// The layer that refuses, with the number by which the outside knows it.
 #[derive(Clone, Copy, Debug, PartialEq, Eq)]
 pub enum Layer {
-    Text,
-    Layout,
-    Parser,
+    Text = 1,
+    Layout = 2,
+    Parser = 3,
 }
 
-// Each way in which a layer refuses.
+// Each way in which a layer refuses, with the number by which the outside knows it.
 #[derive(Clone, Copy, Debug, PartialEq, Eq)]
 pub enum Reason {
     // Text: a byte that begins no lexeme.
-    UnreadableByte,
+    UnreadableByte = 1,
     // Text: a name or a number of more than 64 bytes.
-    RunTooLong,
+    RunTooLong = 2,
     // Text: a lexeme that begins past column 4,095.
-    ColumnTooFar,
+    ColumnTooFar = 3,
     // Layout: a sheet is open already.
-    SheetOpen,
+    SheetOpen = 5,
     // Layout: the last sheet number was handed out.
-    NumbersSpent,
+    NumbersSpent = 6,
     // Layout: the ticket is not the open sheet's.
-    WrongTicket,
+    WrongTicket = 7,
     // Layout: a kind outside 1 to 15, or a column outside 1 to 4,095.
-    BadLexeme,
+    BadLexeme = 8,
     // Layout: a typed `}` that closes no explicit block.
-    StrayClose,
+    StrayClose = 9,
     // Layout: 64 blocks are open.
-    TooDeep,
+    TooDeep = 10,
     // Parser: no sentence goes on with this token.
-    NotViable,
+    NotViable = 11,
     // Parser: it takes no more tokens.
-    ReachSpent,
+    ReachSpent = 12,
     // Layout: the queue has fewer free places than tokens to write.
-    NoRoom,
+    NoRoom = 13,
     // Layout: the sheet ends inside an explicit block.
-    BlockOpen,
+    BlockOpen = 14,
     // Parser: the sheet ends before its sentence does.
-    NotComplete,
+    NotComplete = 15,
 }
 
 // A refusal with its place and the innermost layout context before the call: the column of an implicit block, 0 for
@@ -60,11 +60,7 @@ impl Layer {
     pub fn number(self) -> u32
         ensures { result ≡ layer_number self }
     {
-        match self {
-            Layer::Text => 1,
-            Layer::Layout => 2,
-            Layer::Parser => 3,
-        }
+        self as u32
     }
 }
 
@@ -72,22 +68,7 @@ impl Reason {
     pub fn number(self) -> u32
         ensures { result ≡ (known self).number }
     {
-        match self {
-            Reason::UnreadableByte => 1,
-            Reason::RunTooLong => 2,
-            Reason::ColumnTooFar => 3,
-            Reason::SheetOpen => 5,
-            Reason::NumbersSpent => 6,
-            Reason::WrongTicket => 7,
-            Reason::BadLexeme => 8,
-            Reason::StrayClose => 9,
-            Reason::TooDeep => 10,
-            Reason::NotViable => 11,
-            Reason::ReachSpent => 12,
-            Reason::NoRoom => 13,
-            Reason::BlockOpen => 14,
-            Reason::NotComplete => 15,
-        }
+        self as u32
     }
 
     pub fn layer(self) -> Layer
@@ -101,19 +82,35 @@ impl Reason {
     }
 }
 
-// Line, column, layer, number and context, with `-` for an absent one.
+// A context on its own.
+#[derive(Clone, Copy)]
+struct Context(Option<u32>);
+
+// A column, or `-` for an absent one.
+impl fmt::Display for Context {
+    ghost output = { λ x. Some (context_text x.0) };
+
+    fn fmt<W: fmt::Write>(&self, f: &mut fmt::Formatter<W>) -> fmt::Result {
+        match self.0 {
+            Some(column) => write!(f, "{column}"),
+            None => write!(f, "-"),
+        }
+    }
+}
+
+// Line, column, layer, number and context.
 impl fmt::Display for Fault {
     ghost output = { λ x. Some (fault_text x) };
 
     fn fmt<W: fmt::Write>(&self, f: &mut fmt::Formatter<W>) -> fmt::Result {
-        let line = self.line;
-        let column = self.column;
         let layer = self.reason.layer().number();
         let number = self.reason.number();
-        write!(f, "{line} {column} {layer} {number} ")?;
-        match self.context {
-            Some(context) => write!(f, "{context}"),
-            None => write!(f, "-"),
-        }
+        write!(
+            f,
+            "{} {} {layer} {number} {}",
+            self.line,
+            self.column,
+            Context(self.context)
+        )
     }
 }

@@ -1,7 +1,8 @@
 // What a sheet is made of: kinds, the lexemes that the reader finds and the tokens that the resolver writes.
 ghost use Rattle.std.specs.Prelude.{◌≡◌, Some};
 ghost use Rattle.sheet.specs.Kinds.{kind_number, Numbered, opens};
-ghost use Rattle.sheet.specs.Shown.{lexeme_text};
+ghost use Rattle.sheet.specs.Shown.{lexeme_text, token_numbers};
+ghost use Rattle.sheet.specs.Tokens.{written};
 
 use std::fmt;
 
@@ -33,35 +34,43 @@ impl Kind {
         self as u32
     }
 
-    // The kind of a number, if it has one.
-    pub fn from_number(number: u32) -> Option<Kind>
-        ensures { Numbered number result }
-    {
-        match number {
-            1 => Some(Kind::Name),
-            2 => Some(Kind::Number),
-            3 => Some(Kind::OpenBrace),
-            4 => Some(Kind::CloseBrace),
-            5 => Some(Kind::Semicolon),
-            6 => Some(Kind::OpenParen),
-            7 => Some(Kind::CloseParen),
-            8 => Some(Kind::Equals),
-            9 => Some(Kind::Comma),
-            10 => Some(Kind::Operator),
-            11 => Some(Kind::Let),
-            12 => Some(Kind::In),
-            13 => Some(Kind::Where),
-            14 => Some(Kind::Of),
-            15 => Some(Kind::Do),
-            _ => None,
-        }
-    }
-
     // Whether a block follows: these four keywords open one.
     pub fn opens_block(self) -> bool
         ensures { result ≡ opens self }
     {
         matches!(self, Kind::Let | Kind::Where | Kind::Of | Kind::Do)
+    }
+}
+
+// A number that no kind has.
+#[derive(Clone, Copy, Debug, PartialEq, Eq)]
+pub struct NoKind;
+
+// The kind of a number.
+impl TryFrom<u32> for Kind {
+    type Error = NoKind;
+
+    ghost try_from_gives = { Numbered };
+
+    fn try_from(number: u32) -> Result<Kind, NoKind> {
+        match number {
+            1 => Ok(Kind::Name),
+            2 => Ok(Kind::Number),
+            3 => Ok(Kind::OpenBrace),
+            4 => Ok(Kind::CloseBrace),
+            5 => Ok(Kind::Semicolon),
+            6 => Ok(Kind::OpenParen),
+            7 => Ok(Kind::CloseParen),
+            8 => Ok(Kind::Equals),
+            9 => Ok(Kind::Comma),
+            10 => Ok(Kind::Operator),
+            11 => Ok(Kind::Let),
+            12 => Ok(Kind::In),
+            13 => Ok(Kind::Where),
+            14 => Ok(Kind::Of),
+            15 => Ok(Kind::Do),
+            _ => Err(NoKind),
+        }
     }
 }
 
@@ -73,8 +82,8 @@ pub struct Place {
 }
 
 // A lexeme of a sheet. The kind is a number and no `Kind`: a caller may hand over any number, and the layer that
-// it reaches refuses what is no kind.
-#[derive(Clone, Copy, Debug, PartialEq, Eq)]
+// it reaches refuses what is no kind. The default is none of a sheet: a queue's places hold it before a lexeme comes.
+#[derive(Clone, Copy, Debug, Default, PartialEq, Eq)]
 pub struct Lexeme {
     pub kind: u32,
     pub line: u32,
@@ -86,7 +95,8 @@ pub struct Lexeme {
 }
 
 // A token as it is written: a lexeme without its flag, or one that was inserted (offset and length are then 0).
-#[derive(Clone, Copy, Debug, PartialEq, Eq)]
+// The default is none of a sheet: a queue's places hold it before a token comes.
+#[derive(Clone, Copy, Debug, Default, PartialEq, Eq)]
 pub struct Token {
     pub kind: u32,
     pub line: u32,
@@ -95,17 +105,55 @@ pub struct Token {
     pub length: u32,
 }
 
+impl Lexeme {
+    // Where it begins.
+    pub fn place(&self) -> Place
+        ensures { result ≡ record { line = self.now.line; column = self.now.column } }
+    {
+        Place {
+            line: self.line,
+            column: self.column,
+        }
+    }
+}
+
+// A lexeme as it is written: without its flag.
+impl From<Lexeme> for Token {
+    ghost from_gives = { λ lexeme token. token ≡ written lexeme };
+
+    fn from(lexeme: Lexeme) -> Token {
+        Token {
+            kind: lexeme.kind,
+            line: lexeme.line,
+            column: lexeme.column,
+            offset: lexeme.offset,
+            length: lexeme.length,
+        }
+    }
+}
+
 // Line, column, kind, flag (1 or 0), offset and length.
 impl fmt::Display for Lexeme {
     ghost output = { λ x. Some (lexeme_text x) };
 
     fn fmt<W: fmt::Write>(&self, f: &mut fmt::Formatter<W>) -> fmt::Result {
-        let line = self.line;
-        let column = self.column;
-        let kind = self.kind;
-        let first = self.first as u8;
-        let offset = self.offset;
-        let length = self.length;
-        write!(f, "{line} {column} {kind} {first} {offset} {length}")
+        write!(
+            f,
+            "{} {} {} {} {} {}",
+            self.line, self.column, self.kind, self.first as u8, self.offset, self.length
+        )
+    }
+}
+
+// Kind, line, column, offset and length.
+impl fmt::Display for Token {
+    ghost output = { λ x. Some (token_numbers x) };
+
+    fn fmt<W: fmt::Write>(&self, f: &mut fmt::Formatter<W>) -> fmt::Result {
+        write!(
+            f,
+            "{} {} {} {} {}",
+            self.kind, self.line, self.column, self.offset, self.length
+        )
     }
 }

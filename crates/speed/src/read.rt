@@ -10,16 +10,6 @@ use sheet::{Fault, Lexeme};
 // The reader works through so many places.
 pub const PLACES: usize = 64;
 
-// What stands in the queue's places before the first lexeme.
-pub const NO_LEXEME: Lexeme = Lexeme {
-    kind: 0,
-    line: 0,
-    column: 0,
-    first: false,
-    offset: 0,
-    length: 0,
-};
-
 // What a lexeme adds to the number.
 fn of_lexeme(lexeme: Lexeme) -> u64
     ensures { result ≡ weight (Ok lexeme) }
@@ -67,7 +57,7 @@ fn take_all(queue: &mut Queue<'_, Lexeme>, before: u64) -> u64
 pub extern "C" fn speed_read(text: &[u8]) -> u64
     ensures { result ≡ total text.now }
 {
-    let mut places = [NO_LEXEME; PLACES];
+    let mut places = [Lexeme::default(); PLACES];
     let mut queue = Queue::new(&mut places);
     let mut reader = Reader::open(text);
     let mut sum = 0;

@@ -15,7 +15,7 @@ ghost use Rattle.speed.specs.Resolved.{Resolved, readable, token_weight};
 ghost use Rattle.speed.specs.Sums.{weight};
 ghost use Rattle.speed.specs.Tallies.{Adds, Closes, Counted};
 
-use crate::read::{NO_LEXEME, PLACES, of_fault};
+use crate::read::{PLACES, of_fault};
 use layout::{Refusal, Resolver, Ticket};
 use parser::Stepping;
 use queue::Queue;
@@ -25,15 +25,6 @@ use table::TableParser;
 
 // The resolver writes into so many places: more than any call needs.
 const TOKEN_PLACES: usize = 128;
-
-// What stands in the token queue's places before the first token.
-const NO_TOKEN: Token = Token {
-    kind: 0,
-    line: 0,
-    column: 0,
-    offset: 0,
-    length: 0,
-};
 
 // The number so far, and whether anything was refused.
 #[derive(Clone, Copy)]
@@ -145,7 +136,7 @@ fn feed_all<P: Stepping>(
     ensures size { capacity tokens.new ≡ capacity tokens.old }
 {
     let mut reader = Reader::open(text);
-    let mut places = [NO_LEXEME; PLACES];
+    let mut places = [Lexeme::default(); PLACES];
     let mut lexemes = Queue::new(&mut places);
     loop {
         let answer = reader.read(&mut lexemes);
@@ -197,7 +188,7 @@ fn resolve<P: Stepping>(text: &[u8], resolver: &mut Resolver<P>) -> u64
     ensures { Resolved (P.Stepping.language resolver.old.parser) (P.Stepping.reach resolver.old.parser) (readable text.now) result }
 {
     let ticket = resolver.begin().unwrap();
-    let mut places = [NO_TOKEN; TOKEN_PLACES];
+    let mut places = [Token::default(); TOKEN_PLACES];
     let mut tokens = Queue::new(&mut places);
     let mut tally = Tally {
         sum: 0,

@@ -21,24 +21,6 @@ pub struct Kept {
     pub faults: Vec<Fault>,
 }
 
-// What a place of a queue holds before a lexeme or a token comes.
-const NO_LEXEME: Lexeme = Lexeme {
-    kind: 0,
-    line: 0,
-    column: 0,
-    first: false,
-    offset: 0,
-    length: 0,
-};
-
-pub const NO_TOKEN: Token = Token {
-    kind: 0,
-    line: 0,
-    column: 0,
-    offset: 0,
-    length: 0,
-};
-
 // So many lexemes are read at once.
 const LEXEMES: usize = 16;
 
@@ -142,9 +124,9 @@ pub fn feed_all<P: Stepping>(
     ensures place { IfOk result (λ p. p ≡ end_of text.now) }
 {
     let mut reader = Reader::open(text);
-    let mut lexeme_places = [NO_LEXEME; LEXEMES];
+    let mut lexeme_places = [Lexeme::default(); LEXEMES];
     let mut lexemes = Queue::new(&mut lexeme_places);
-    let mut token_places = [NO_TOKEN; PLACES];
+    let mut token_places = [Token::default(); PLACES];
     let mut queue = Queue::new(&mut token_places);
     loop {
         let answer = reader.read(&mut lexemes);

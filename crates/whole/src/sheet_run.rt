@@ -7,13 +7,13 @@ ghost use Rattle.layout.specs.declared.call.Call.TheVariants.{GiveUp as give_up_
 ghost use Rattle.whole.specs.Feeding.{Comes, Ended, Fails, Ran, SameParser, Shut};
 ghost use Rattle.whole.specs.Whole.{Lawful, outcome};
 
-use crate::feeding::{Kept, NO_TOKEN, PLACES, drain, feed_all};
+use crate::feeding::{Kept, PLACES, drain, feed_all};
 use crate::outcome::{Failure, Outcome};
 use layout::{Refusal, Resolver, Ticket};
 use parser::Stepping;
 use queue::Queue;
 use reader::check;
-use sheet::{Fault, Place};
+use sheet::{Fault, Place, Token};
 use std::alloc::{AllocError, Global};
 
 // Gives up the open sheet.
@@ -38,7 +38,7 @@ fn finish<P: Stepping>(
     ensures shut { Shut (meaning P.Stepping resolver.old.parser) (meaning P.Stepping resolver.new.parser) (standing resolver.new) }
 {
     let mut kept = kept;
-    let mut places = [NO_TOKEN; PLACES];
+    let mut places = [Token::default(); PLACES];
     let mut queue = Queue::new(&mut places);
     match ticket.finish(resolver, end, &mut queue) {
         Ok(_) => {

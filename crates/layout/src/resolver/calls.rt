@@ -1,7 +1,7 @@
 // The calls of a service: new, begin, feed, finish and give up.
 ghost use Rattle.std.specs.Prelude.{◌≡◌, ◌+◌, ◌^◌, ◌<◌, [], IfErr};
 ghost use Rattle.parser.specs.Meaning.{meaning, started};
-ghost use Rattle.queue.specs.Waiting.{capacity, room, waiting};
+ghost use Rattle.queue.specs.Waiting.{room, SamePlaces, waiting};
 ghost use Rattle.layout.specs.Calling.{Calls, Writes, begin_answer, feed_answer, finish_answer, give_up_answer, next_of, standing};
 ghost use Rattle.layout.specs.Moves.{Took};
 ghost use Rattle.layout.specs.Service.{fault, new};
@@ -11,7 +11,6 @@ use super::Resolver;
 use crate::draft::MOST_BLOCKS;
 use crate::rule::{Before, Coming};
 use crate::ticket::{Refusal, Ticket};
-use crate::write::without_flag;
 use parser::Stepping;
 use queue::Queue;
 use sheet::{Fault, Lexeme, Place, Reason, Token};
@@ -89,13 +88,12 @@ impl Ticket {
         queue: &mut Queue<'_, Token>,
     ) -> Result<usize, Fault>
         ensures writes { Writes (meaning P.Stepping resolver.old.parser) (standing resolver.old) (Feed self.now.number lexeme (room queue.old)) (feed_answer result) (waiting queue.old) (waiting queue.new) (meaning P.Stepping resolver.new.parser) (standing resolver.new) }
-        ensures size { capacity queue.new ≡ capacity queue.old }
-        ensures lender { queue.new.places.ghost_name ≡ queue.old.places.ghost_name }
+        ensures places { SamePlaces queue.old queue.new }
     {
         match resolver.feed_directly(self.number, &lexeme, queue.free()) {
             Some(fed) => match fed {
                 Ok(()) => {
-                    let _ = queue.put(without_flag(&lexeme));
+                    let _ = queue.put(Token::from(lexeme));
                     Ok(1)
                 }
                 Err(reason) => Err(resolver.fault(reason, lexeme.line, lexeme.column)),
@@ -112,8 +110,7 @@ impl Ticket {
         queue: &mut Queue<'_, Token>,
     ) -> Result<usize, Fault>
         ensures writes { Writes (meaning P.Stepping resolver.old.parser) (standing resolver.old) (Feed self.now.number lexeme (room queue.old)) (feed_answer result) (waiting queue.old) (waiting queue.new) (meaning P.Stepping resolver.new.parser) (standing resolver.new) }
-        ensures size { capacity queue.new ≡ capacity queue.old }
-        ensures lender { queue.new.places.ghost_name ≡ queue.old.places.ghost_name }
+        ensures places { SamePlaces queue.old queue.new }
     {
         match resolver.feed_lexeme(self.number, lexeme, queue.free()) {
             Ok(draft) => {
@@ -135,8 +132,7 @@ impl Ticket {
     ) -> Result<usize, Refusal>
         ensures writes { Writes (meaning P.Stepping resolver.old.parser) (standing resolver.old) (Finish self.number «end» (room queue.old)) (finish_answer result) (waiting queue.old) (waiting queue.new) (meaning P.Stepping resolver.new.parser) (standing resolver.new) }
         ensures ticket { IfErr result (λ e. e.ticket.number ≡ self.number) }
-        ensures size { capacity queue.new ≡ capacity queue.old }
-        ensures lender { queue.new.places.ghost_name ≡ queue.old.places.ghost_name }
+        ensures places { SamePlaces queue.old queue.new }
     {
         match resolver.finish_sheet(self.number, end, queue.free()) {
             Ok(draft) => {

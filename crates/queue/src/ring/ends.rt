@@ -1,7 +1,7 @@
 // What puts elements in at one end and takes them out at the other.
 ghost use Rattle.std.specs.Prelude.{◌≡◌, ◌+◌, ◌-◌, ◌<◌, ◌≤◌, [], ◌∷◌, ◌++◌, length, is_ok, if◌then◌else◌, MatchOption, nat_lt, slice_index_or};
 ghost use Rattle.queue.specs.Ring.{onward};
-ghost use Rattle.queue.specs.Waiting.{waiting, capacity, room};
+ghost use Rattle.queue.specs.Waiting.{capacity, room, SamePlaces, waiting};
 
 use super::Queue;
 use crate::refusal::Full;
@@ -25,8 +25,7 @@ impl<'a, T: Copy> Queue<'a, T> {
         ensures accepts { is_ok result ≡ nat_lt 0 (room self.old) }
         ensures list { waiting self.new ≡ (if is_ok result then waiting self.old ++ x ∷ [] else waiting self.old) }
         ensures left { room self.new ≡ room self.old - 1 }
-        ensures size { capacity self.new ≡ capacity self.old }
-        ensures lender { self.new.places.ghost_name ≡ self.old.places.ghost_name }
+        ensures places { SamePlaces self.old self.new }
     {
         if self.count == self.places.len() {
             return Err(Full);
@@ -41,8 +40,7 @@ impl<'a, T: Copy> Queue<'a, T> {
     pub fn take(&mut self) -> Option<T>
         ensures list { MatchOption result ((waiting self.old ≡ []) × (waiting self.new ≡ [])) (λ x. waiting self.old ≡ x ∷ waiting self.new) }
         ensures left { MatchOption result (room self.new ≡ room self.old) (λ _. room self.new ≡ room self.old + 1) }
-        ensures size { capacity self.new ≡ capacity self.old }
-        ensures lender { self.new.places.ghost_name ≡ self.old.places.ghost_name }
+        ensures places { SamePlaces self.old self.new }
     {
         if self.count == 0 {
             return None;
@@ -73,8 +71,7 @@ impl<'a, T: Copy> Queue<'a, T> {
         requires behind { at ≡ onward (capacity self.old) self.old.first self.old.count }
         ensures list { waiting self.new ≡ waiting self.old ++ x ∷ [] }
         ensures more { self.new.count ≡ self.old.count + 1 }
-        ensures size { capacity self.new ≡ capacity self.old }
-        ensures lender { self.new.places.ghost_name ≡ self.old.places.ghost_name }
+        ensures places { SamePlaces self.old self.new }
     {
         self.places[at] = x;
         self.count += 1;
@@ -86,8 +83,7 @@ impl<'a, T: Copy> Queue<'a, T> {
         requires behind { next ≡ onward (capacity self.old) self.old.first 1 }
         ensures list { (d : T) → waiting self.old ≡ slice_index_or self.old.places.now self.old.first d ∷ waiting self.new }
         ensures less { self.new.count + 1 ≡ self.old.count }
-        ensures size { capacity self.new ≡ capacity self.old }
-        ensures lender { self.new.places.ghost_name ≡ self.old.places.ghost_name }
+        ensures places { SamePlaces self.old self.new }
     {
         self.first = next;
         self.count -= 1;

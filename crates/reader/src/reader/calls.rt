@@ -1,6 +1,6 @@
 // Checking, opening and reading a text.
 ghost use Rattle.std.specs.Prelude.{◌≡◌, ◌<◌, false, leb, [], ◌++◌, length, is_ok, if◌then◌else◌, nat_le};
-ghost use Rattle.queue.specs.Waiting.{capacity, room, waiting};
+ghost use Rattle.queue.specs.Waiting.{room, SamePlaces, waiting};
 ghost use Rattle.reader.specs.Laws.{Laws};
 ghost use Rattle.reader.specs.Places.{column_at, line_at};
 ghost use Rattle.reader.specs.Reading.{answer, offset_of, reads, text_of};
@@ -61,8 +61,7 @@ impl<'a> Reader<'a> {
         ensures next { offset_of self.new ≡ (reads self.old queue.old).next }
         ensures text { text_of self.new ≡ text_of self.old }
         ensures forward { is_ok result ≡ false → 0 < room queue.old → offset_of self.old < offset_of self.new }
-        ensures size { capacity queue.new ≡ capacity queue.old }
-        ensures lender { queue.new.places.ghost_name ≡ queue.old.places.ghost_name }
+        ensures places { SamePlaces queue.old queue.new }
     {
         let mut count = 0;
         loop {

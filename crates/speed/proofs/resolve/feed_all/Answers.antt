@@ -72,7 +72,7 @@ loop-reader-preserved g c =
     let k = subst (λ (l : List Lexeme). Adds (of g c.loop-reader.resolver.parser) (standing c.loop-reader.resolver) c.args.ticket.now.number (map Ok l) c.loop-reader.tally c.feed_waiting.new.tally (of g z.parser) (standing z)) (put_is r q q' text i.4 i.0 e.list) f.adds in
     let stop = adds_stop (of g z.parser) (standing z) c.args.ticket.now.number c.in-Err.stop c.feed_waiting.new.tally c.add_stop.new.tally c.add_stop.ensures in (
       f.taken,
-      f.read_size ∙ e.size ∙ i.1,
+      f.read_size ∙ e.places.size ∙ i.1,
       f.emptied,
       f.size ∙ i.3,
       e.text ∙ i.4,

@@ -26,7 +26,7 @@ returns-in-Ok g c =
       within = one_within (of g r.parser) (of g r'.parser) (standing r) (standing r') t l (room q) enough (waiting q) (waiting c.feed.new.queue) c.requires.empty _ w;
       adds = one_accepted (of g r.parser) (of g r'.parser) (standing r) (standing r') t l (room q) enough (waiting q) (waiting c.feed.new.queue) c.requires.empty c.args.tally.now _ c.in-Ok.field-0 w c.take_tokens-tally.ensures.value refl;
       emptied = c.take_tokens-tally.ensures.emptied;
-      size = c.take_tokens-tally.ensures.size ∙ c.in-Ok.ensures.size;
+      size = c.take_tokens-tally.ensures.size ∙ c.in-Ok.ensures.places.size;
     }
 
 pub returns-in-Err : goal.returns-in-Err
@@ -42,5 +42,5 @@ returns-in-Err g c =
       within = one_within (of g r.parser) (of g r'.parser) (standing r) (standing r') t l (room q) enough (waiting q) (waiting c.feed.new.queue) c.requires.empty _ w;
       adds = one_refused (of g r.parser) (of g r'.parser) (standing r) (standing r') t l (room q) enough (waiting q) (waiting c.feed.new.queue) c.requires.empty c.args.tally.now c.add_fault.new.tally c.in-Err.fault w c.add_fault.ensures.sum c.add_fault.ensures.refused;
       emptied = refused_empty (of g r.parser) (of g r'.parser) (standing r) (standing r') t l (room q) enough (waiting q) (waiting c.feed.new.queue) c.requires.empty c.in-Err.fault w;
-      size = c.in-Err.ensures.size;
+      size = c.in-Err.ensures.places.size;
     }

@@ -18,7 +18,7 @@ pub loop-lexeme-preserved : goal.loop-lexeme-preserved
 loop-lexeme-preserved g c =
     let i = c.loop-lexeme.invariant in
     let e = c.feed_one.ensures in
-    (e.emptied, e.size ∙ i.1, c.in-Some.ensures.size ∙ i.2, sofar_more c.in-Some.lexeme i.3 c.in-Some.ensures.list e.within e.adds)
+    (e.emptied, e.size ∙ i.1, c.in-Some.ensures.places.size ∙ i.2, sofar_more c.in-Some.lexeme i.3 c.in-Some.ensures.list e.within e.adds)
 
 pub returns : goal.returns
 returns g c =

@@ -92,7 +92,7 @@ loop-reader-preserved g c =
     (of g c.feed_waiting.new.resolver.parser) (standing c.feed_waiting.new.resolver)) (put_is r q c.read-answer.new.queue text i.5 i.0 c.read-answer.ensures.list) c.in_ok-feed_waiting.ensures.keeps) in
     let stop = keeps_stop (of g z.parser) (standing z) c.args.ticket.now.number c.in-Err.stop (vec_items c.feed_waiting.new.kept.tokens) (vec_items c.feed_waiting.new.kept.faults) (vec_items c.note_stop.new.faults) c.in_ok-note_stop-in-Err.ensures in (
       f.taken,
-      f.read_size ∙ e.size ∙ i.1,
+      f.read_size ∙ e.places.size ∙ i.1,
       f.emptied,
       f.size ∙ i.3,
       omega (arith, keeps_few stop, c.note_stop.new.faults.ok.0),

@@ -30,7 +30,7 @@ returns-in-Ok g c =
           (λ _ e. one_accepted (of g r.parser) (of g r'.parser) (standing r) (standing r') t l (room q) enough (waiting q) (waiting c.feed.new.queue) c.requires.empty c.in-Ok.field-0 (vec_items old.tokens) (vec_items c.drain.new.tokens) (vec_items old.faults) w e few)
           c.drain.ensures.kept;
       emptied = c.drain.ensures.emptied;
-      size = c.drain.ensures.size ∙ c.in-Ok.ensures.size;
+      size = c.drain.ensures.size ∙ c.in-Ok.ensures.places.size;
     }
 
 pub returns-in-Err : goal.returns-in-Err
@@ -50,5 +50,5 @@ returns-in-Err g c =
           c.note.ensures;
       emptied = IfOk-weaker c.note.result _ _
           (λ _ e. refused_empty (of g r.parser) (of g r'.parser) (standing r) (standing r') t l (room q) enough (waiting q) (waiting c.feed.new.queue) c.requires.empty c.in-Err.fault w) c.note.ensures;
-      size = c.in-Err.ensures.size;
+      size = c.in-Err.ensures.places.size;
     }

@@ -26,7 +26,7 @@ loop-lexeme-preserved g c =
     let i = c.loop-lexeme.invariant in
     let e = c.in_ok-feed_one.ensures in
     let k = c.feed_one.new.kept in
-    (e.emptied, e.size ∙ i.1, omega (arith, keeps_few e.keeps, k.faults.ok.0), c.in-Some.ensures.size ∙ i.3, sofar_more c.in-Some.lexeme i.4 c.in-Some.ensures.list e.within e.keeps)
+    (e.emptied, e.size ∙ i.1, omega (arith, keeps_few e.keeps, k.faults.ok.0), c.in-Some.ensures.places.size ∙ i.3, sofar_more c.in-Some.lexeme i.4 c.in-Some.ensures.list e.within e.keeps)
 
 pub returns-in_err-feed_one : goal.returns-in_err-feed_one
 returns-in_err-feed_one g c =
@@ -37,7 +37,7 @@ returns-in_err-feed_one g c =
       keeps = search rules;
       taken = search rules;
       emptied = search rules;
-      read_size = c.in-Some.ensures.size ∙ i.3;
+      read_size = c.in-Some.ensures.places.size ∙ i.3;
       size = e.size ∙ i.1 ∙ sym c.requires.places;
     }
 

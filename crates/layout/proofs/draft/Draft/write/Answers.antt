@@ -1,8 +1,10 @@
 use Rattle.std.proofs.Common.{◌<◌, [], ◌∷◌, ◌++◌, map, is_ok, sym, ap, ◌∙◌, arith}
 use Rattle.std.proofs.lemmas.List.{append_assoc}
 use Rattle.queue.specs.Waiting.{room, waiting}
+use Rattle.queue.proofs.Laws.{same_places_on}
+use Rattle.sheet.specs.Tokens.{written}
 use Rattle.layout.specs.Drafts.{tokens_of}
-use Rattle.layout.specs.Marks.{inserted, is_end, written}
+use Rattle.layout.specs.Marks.{inserted, is_end}
 use Rattle.layout.proofs.Queues.{put_list}
 use Rattle.layout.proofs.Written.{count_lexeme, drafted_at_end, drafted_at_lexeme, inserted_fewer}
 use Rattle.layout.proofs.draft.Draft.write.Goals as goal
@@ -18,12 +20,11 @@ returns-in-Lexeme c =
     let w = waiting c.args.queue.now in
     let some : 0 < room c.write_inserted.new.queue = omega (arith, first.left, c.requires, count_lexeme coming c.args.self (ap is_end c.in-Lexeme.is)) in
     record {
-      list = put_list (is_ok c.put.result) (room c.write_inserted.new.queue) (waiting c.write_inserted.new.queue) (waiting c.put.new.self) c.without_flag.result told.accepts some told.list
-          ∙ (λ i. first.list i ++ c.without_flag.ensures i ∷ [])
+      list = put_list (is_ok c.put.result) (room c.write_inserted.new.queue) (waiting c.write_inserted.new.queue) (waiting c.put.new.self) c.from.result told.accepts some told.list
+          ∙ (λ i. first.list i ++ c.from.ensures i ∷ [])
           ∙ append_assoc w (map (inserted coming) (tokens_of c.args.self)) (written c.in-Lexeme.lexeme ∷ [])
           ∙ ap (λ x. w ++ x) (sym (drafted_at_lexeme coming c.in-Lexeme.lexeme c.args.self c.in-Lexeme.is));
-      size = told.size ∙ first.size;
-      lender = told.lender ∙ first.lender;
+      places = same_places_on first.places told.places;
     }
 
 pub returns-in_default : goal.returns-in_default
@@ -31,6 +32,5 @@ returns-in_default c =
     let first = c.write_inserted.ensures in
     record {
       list = first.list ∙ ap (λ x. waiting c.args.queue.now ++ x) (sym (drafted_at_end c.args.coming.now c.in_default.field-0 c.args.self c.in_default.is));
-      size = first.size;
-      lender = first.lender;
+      places = first.places;
     }

@@ -1,5 +1,6 @@
 use Rattle.std.proofs.Common.{◌++◌, replicate, sym, ap, ◌∙◌, arith}
 use Rattle.queue.specs.Waiting.{waiting}
+use Rattle.queue.proofs.Laws.{same_places_on}
 use Rattle.layout.proofs.Written.{count_tokens, four_behind, inserted_parts}
 use Rattle.layout.proofs.draft.Draft.write_inserted.Goals as goal
 
@@ -29,6 +30,5 @@ returns c =
           (four.list ∙ ap (λ t. waiting c.put_times-3.new.queue ++ replicate c.args.self.closes_after t) c.inserted-close.ensures)
           ∙ ap (λ x. waiting c.args.queue.now ++ x) (sym (inserted_parts c.args.coming.now c.args.self));
       left = omega (arith, count_tokens c.args.self, c.from.ensures, c.from-2.ensures, one.left, two.left, three.left, four.left);
-      size = four.size ∙ three.size ∙ two.size ∙ one.size;
-      lender = four.lender ∙ three.lender ∙ two.lender ∙ one.lender;
+      places = same_places_on one.places (same_places_on two.places (same_places_on three.places four.places));
     }

@@ -10,6 +10,7 @@ use Rattle.layout.proofs.ticket.Ticket.feed.Given as given
 use Rattle.layout.proofs.ticket.Ticket.feed.Goals as goal
 use Rattle.layout.proofs.ticket.Ticket.feed.Goals.{In-Some}
 use Rattle.parser.proofs.Bound.{means}
+use Rattle.queue.proofs.Laws.{same_places}
 
 -- the parser's meaning
 abbrev of : (g : given.Over) → g.row.P.Denot → Meaning
@@ -37,9 +38,8 @@ returns-in-Ok g c =
     let some : 0 < room q = omega (arith, fed_room (of g r.parser) r (of g z.parser) (standing z) t (room q) l (empty r.depth) one) in
     record {
       writes = fed_writes (of g r.parser) r (of g z.parser) (standing z) t (room q) l (empty r.depth) 1 (waiting q) (waiting c.put.new.self) one
-          (put_list (is_ok c.put.result) (room q) (waiting q) (waiting c.put.new.self) c.without_flag.result told.accepts some told.list ∙ ap (λ x. waiting q ++ x ∷ []) c.without_flag.ensures) refl;
-      size = told.size;
-      lender = told.lender;
+          (put_list (is_ok c.put.result) (room q) (waiting q) (waiting c.put.new.self) c.from.result told.accepts some told.list ∙ ap (λ x. waiting q ++ x ∷ []) c.from.ensures) refl;
+      places = told.places;
     }
 
 pub returns-in-Err : goal.returns-in-Err
@@ -49,8 +49,7 @@ returns-in-Err g c =
     record {
       writes = fed_denied (of g r.parser) r (of g z.parser) (standing z) c.args.self.now.number (room c.args.queue.now) c.args.lexeme c.in-Err.reason c.fault.result (waiting c.args.queue.now)
           (fed g (goal.at.returns-in-Err g c).In-Some (Err c.in-Err.reason) c.in-Err.is) c.fault.ensures;
-      size = refl;
-      lender = refl;
+      places = same_places _;
     }
 
 pub returns-in-None : goal.returns-in-None
@@ -63,6 +62,5 @@ returns-in-None g c =
     record {
       writes = feeds_from (of g r.parser) (of g z.parser) (of g last.parser) (standing r) (standing z) (standing last) c.args.self.now.number c.args.lexeme (room c.args.queue.now) (feed_answer c.feed_by_rules.result)
           (waiting c.args.queue.now) (waiting c.feed_by_rules.new.queue) same.0 same.1 told.writes;
-      size = told.size;
-      lender = told.lender;
+      places = told.places;
     }

@@ -6,6 +6,7 @@ use Rattle.layout.proofs.Answered.{fed_denied, fed_room, fed_writes}
 use Rattle.layout.proofs.ticket.Ticket.feed_by_rules.Given as given
 use Rattle.layout.proofs.ticket.Ticket.feed_by_rules.Goals as goal
 use Rattle.parser.proofs.Bound.{means}
+use Rattle.queue.proofs.Laws.{same_places}
 
 -- the parser's meaning
 abbrev of : (g : given.Over) → g.row.P.Denot → Meaning
@@ -27,8 +28,7 @@ returns-in-Ok g c =
     record {
       writes = fed_writes (of g r.parser) r (of g z.parser) (standing z) t _ l d c.count.result (waiting c.args.queue.now) (waiting c.write.new.queue)
           (subst (λ (n : ℕ). Fed (of g r.parser) (standing r) t l n (of g z.parser) (standing z) (Ok d)) c.free.ensures c.in-Ok.ensures) c.write.ensures.list c.count.ensures;
-      size = c.write.ensures.size;
-      lender = c.write.ensures.lender;
+      places = c.write.ensures.places;
     }
 
 pub returns-in-Err : goal.returns-in-Err
@@ -40,6 +40,5 @@ returns-in-Err g c =
     record {
       writes = fed_denied (of g r.parser) r (of g z.parser) (standing z) t _ l c.in-Err.reason c.fault.result (waiting c.args.queue.now)
           (subst (λ (n : ℕ). Fed (of g r.parser) (standing r) t l n (of g z.parser) (standing z) (Err c.in-Err.reason)) c.free.ensures c.in-Err.ensures) c.fault.ensures;
-      size = refl;
-      lender = refl;
+      places = same_places _;
     }

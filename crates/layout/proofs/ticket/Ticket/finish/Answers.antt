@@ -6,6 +6,7 @@ use Rattle.layout.proofs.Answered.{finished_denied, finished_room, finished_writ
 use Rattle.layout.proofs.ticket.Ticket.finish.Given as given
 use Rattle.layout.proofs.ticket.Ticket.finish.Goals as goal
 use Rattle.parser.proofs.Bound.{means}
+use Rattle.queue.proofs.Laws.{same_places}
 
 -- the parser's meaning
 abbrev of : (g : given.Over) → g.row.P.Denot → Meaning
@@ -28,8 +29,7 @@ returns-in-Ok g c =
       ticket = tt;
       writes = finished_writes (of g r.parser) r (of g z.parser) (standing z) t _ p d c.count.result (waiting c.args.queue.now) (waiting c.write.new.queue)
           (subst (λ (n : ℕ). Finished (of g r.parser) (standing r) t p n (of g z.parser) (standing z) (Ok d)) c.free.ensures c.in-Ok.ensures) c.write.ensures.list c.count.ensures;
-      size = c.write.ensures.size;
-      lender = c.write.ensures.lender;
+      places = c.write.ensures.places;
     }
 
 pub returns-in-Err : goal.returns-in-Err
@@ -42,6 +42,5 @@ returns-in-Err g c =
       ticket = refl;
       writes = finished_denied (of g r.parser) r (of g z.parser) (standing z) t _ p c.in-Err.reason c.fault.result (waiting c.args.queue.now)
           (subst (λ (n : ℕ). Finished (of g r.parser) (standing r) t p n (of g z.parser) (standing z) (Err c.in-Err.reason)) c.free.ensures c.in-Err.ensures) c.fault.ensures;
-      size = refl;
-      lender = refl;
+      places = same_places _;
     }

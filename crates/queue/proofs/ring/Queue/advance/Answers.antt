@@ -15,6 +15,5 @@ returns g c =
     record {
       list = λ d. take_around q.places.now q.first q.count (omega arith) c.args.next d c.requires.some q.held c.requires.behind;
       less = omega arith;
-      size = refl {a = length q.places.now};
-      lender = refl {a = q.places.ghost_name};
+      places = record { size = refl {a = length q.places.now}; lender = refl {a = q.places.ghost_name} };
     }

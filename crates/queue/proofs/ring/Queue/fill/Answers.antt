@@ -21,6 +21,5 @@ returns g c =
     record {
       list = put_around q.places.now q.first q.count (omega arith) c.args.at c.args.x c.requires.some c.requires.behind;
       more = refl {a = q.count + 1};
-      size = length-set q.places.now c.args.at c.args.x;
-      lender = refl {a = q.places.ghost_name};
+      places = record { size = length-set q.places.now c.args.at c.args.x; lender = refl {a = q.places.ghost_name} };
     }

@@ -1,6 +1,7 @@
 use Rattle.std.proofs.Common.{◌≡◌, ◌∷◌, length, Err, sym, refl, ap, ◌∙◌, subst, arith}
 use Rattle.std.proofs.lemmas.Result.{err_from_is_err_and}
 use Rattle.std.proofs.lemmas.Bool.{ltb-false, ltb-true, true≢false}
+use Rattle.queue.proofs.Laws.{same_places_on}
 use Rattle.reader.specs.Found.{Begins}
 use Rattle.reader.specs.Items.{good, item_of, items}
 use Rattle.reader.specs.Reading.{offset_of, text_of}
@@ -30,8 +31,7 @@ returns-in_default c =
       next = end.end ∙ ap length sofar.text ∙ out.goes_on;
       text = sofar.text;
       forward = λ refused. absurd (true≢false refused);
-      size = sofar.size;
-      lender = sofar.lender;
+      places = sofar.places;
     }
 
 pub returns-in_err-put-in-Ok : goal.returns-in_err-put-in-Ok
@@ -50,8 +50,7 @@ returns-in_err-put-in-Ok c =
       next = sym begins ∙ out.goes_on;
       text = sofar.text;
       forward = λ refused some. omega (arith, out.forward refl some, begins);
-      size = refused.size ∙ sofar.size;
-      lender = refused.lender ∙ sofar.lender;
+      places = same_places_on sofar.places refused.places;
     }
 
 pub returns-in-Err : goal.returns-in-Err
@@ -67,8 +66,7 @@ returns-in-Err c =
       next = found.past ∙ out.goes_on;
       text = sofar.text;
       forward = λ refused some. omega (arith, out.forward refused some, found.past);
-      size = sofar.size;
-      lender = sofar.lender;
+      places = sofar.places;
     }
 
 pub loop-found-smaller : goal.loop-found-smaller
@@ -82,4 +80,4 @@ loop-found-preserved c =
     let accepted = c.in_ok-put-in-Ok.ensures in
     one_more c.loop-found.invariant c.in-Ok.lexeme _ c.put.new.self refl (good_first (goal.at.loop-found-preserved c).In-Ok)
     (omega (arith, found.some, found.past, c.after_gaps-self.ensures.onward)) accepted.list
-    (omega (arith, ltb-true 0 _ (sym accepted.accepts), accepted.left)) accepted.size accepted.lender
+    (omega (arith, ltb-true 0 _ (sym accepted.accepts), accepted.left)) accepted.places

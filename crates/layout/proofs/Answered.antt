@@ -11,7 +11,7 @@ use Rattle.sheet.specs.declared.fault.Reason.TheVariants.{NumbersSpent, SheetOpe
 use Rattle.sheet.specs.declared.lexeme.Lexeme.{Lexeme}
 use Rattle.sheet.specs.declared.lexeme.Place.{Place}
 use Rattle.sheet.specs.declared.lexeme.Token.{Token}
-use Rattle.layout.specs.Calling.{Calls, Fed, Finished, Writes, next_of, shut, standing}
+use Rattle.layout.specs.Calling.{Calls, Fed, Finished, next_of, over, shut, standing, Writes}
 use Rattle.layout.specs.Drafts.{drafted_tokens}
 use Rattle.layout.specs.Moves.{Took}
 use Rattle.layout.specs.Service.{Does, State, begin_open, begin_spent, begins, fault, feed_fails, feeds, finish_fails, finishes, give_up_fails, gives_up}
@@ -43,7 +43,7 @@ none_behind : (q : List Token) → q ≡ q ++ []
 none_behind q = sym (append-nil q)
 
 -- a lexeme is fed where the parser and the sheet are as before
-pub feeds_from : (m n last : Meaning) (s z s' : State) (t : ℕ) (l : Lexeme) (free : ℕ) (a : Answer) (q q' : List Token) → Took [] m n → z ≡ s → Writes n z (feed t l free) a q q' last s' → Writes m s (feed t l free) a q q' last s'
+pub feeds_from : (m n last : Meaning) (s z s' : State) (t : ℕ) (l : Lexeme) (free : ℕ) (a : Answer) (q q' : List Token) → Took [] m n → z ≡ s → Writes (over n z) (feed t l free) a q q' (over last s') → Writes (over m s) (feed t l free) a q q' (over last s')
 feeds_from m n last s z s' t l free a q q' same at x =
     let c = x.calls in
     let all : n.left ≡ m.left = omega (arith, same.left) in
@@ -65,20 +65,20 @@ feeds_from m n last s z s' t l free a q q' same at x =
     }
 
 module _ {P : Type 0} (m : Meaning) (r : Resolver P) where
-  pub begins_open : (f : Fault) → is_some r.sheet ≡ true → f ≡ fault (standing r) 0 0 SheetOpen → Calls m (standing r) begin (refused f) [] m (standing r)
+  pub begins_open : (f : Fault) → is_some r.sheet ≡ true → f ≡ fault (standing r) 0 0 SheetOpen → Calls (over m (standing r)) begin (refused f) [] (over m (standing r))
   begins_open f e is =
-      subst (λ (x : Fault). Calls m (standing r) begin (refused x) [] m (standing r)) (sym is)
+      subst (λ (x : Fault). Calls (over m (standing r)) begin (refused x) [] (over m (standing r))) (sym is)
       (record { left = standing r; does = begin_open (some_number r.sheet e).1; state = refl; parser = took_none m })
 
-  pub begins_spent : (f : Fault) → is_some r.sheet ≡ false → r.next ≡ None → f ≡ fault (standing r) 0 0 NumbersSpent → Calls m (standing r) begin (refused f) [] m (standing r)
+  pub begins_spent : (f : Fault) → is_some r.sheet ≡ false → r.next ≡ None → f ≡ fault (standing r) 0 0 NumbersSpent → Calls (over m (standing r)) begin (refused f) [] (over m (standing r))
   begins_spent f e none is =
-      subst (λ (x : Fault). Calls m (standing r) begin (refused x) [] m (standing r)) (sym is)
+      subst (λ (x : Fault). Calls (over m (standing r)) begin (refused x) [] (over m (standing r))) (sym is)
       (record { left = standing r; does = begin_spent (no_number r.sheet e) (omega (arith, ap next_of none)); state = refl; parser = took_none m })
 
-  pub begins_new : (n : Meaning) (s' : State) (number : ℕ) → is_some r.sheet ≡ false → r.next ≡ Some number → number < 2 ^ 64 → s' ≡ record { sheet = Some number; next = number + 1; contexts = []; before = Nothing; written = [] } → Alike n (started m) → Calls m (standing r) begin (ticket number) [] n s'
+  pub begins_new : (n : Meaning) (s' : State) (number : ℕ) → is_some r.sheet ≡ false → r.next ≡ Some number → number < 2 ^ 64 → s' ≡ record { sheet = Some number; next = number + 1; contexts = []; before = Nothing; written = [] } → Alike n (started m) → Calls (over m (standing r)) begin (ticket number) [] (over n s')
   begins_new n s' number e next low is so =
       let is-next : next_of r.next ≡ number = ap next_of next in
-      subst (λ k. Calls m (standing r) begin (ticket k) [] n s') is-next
+      subst (λ k. Calls (over m (standing r)) begin (ticket k) [] (over n s')) is-next
       (record {
         left = record { sheet = Some (next_of r.next); next = next_of r.next + 1; contexts = []; before = Nothing; written = [] };
         does = begins (no_number r.sheet e) (omega arith);
@@ -86,42 +86,42 @@ module _ {P : Type 0} (m : Meaning) (r : Resolver P) where
         parser = record { language = so.language; reach = so.reach; remainder = so.remainder; left = omega (arith, so.left) };
       })
 
-  pub gives_up_wrong : (f : Fault) (t : ℕ) → (r.sheet ≡ Some t → ⊥) → f ≡ fault (standing r) 0 0 WrongTicket → Calls m (standing r) (give_up t) (refused f) [] m (standing r)
+  pub gives_up_wrong : (f : Fault) (t : ℕ) → (r.sheet ≡ Some t → ⊥) → f ≡ fault (standing r) 0 0 WrongTicket → Calls (over m (standing r)) (give_up t) (refused f) [] (over m (standing r))
   gives_up_wrong f t n is =
-      subst (λ (x : Fault). Calls m (standing r) (give_up t) (refused x) [] m (standing r)) (sym is)
+      subst (λ (x : Fault). Calls (over m (standing r)) (give_up t) (refused x) [] (over m (standing r))) (sym is)
       (record { left = standing r; does = give_up_fails n; state = refl; parser = took_none m })
 
-  pub gives_up_open : (s' : State) (t : ℕ) → r.sheet ≡ Some t → s' ≡ shut (standing r) → Calls m (standing r) (give_up t) closed [] m s'
+  pub gives_up_open : (s' : State) (t : ℕ) → r.sheet ≡ Some t → s' ≡ shut (standing r) → Calls (over m (standing r)) (give_up t) closed [] (over m s')
   gives_up_open s' t e is = record { left = shut (standing r); does = gives_up e; state = is; parser = took_none m }
 
   module _ (n : Meaning) (s' : State) (t free : ℕ) where
     -- all that is accepted has a place
-    pub fed_room : (l : Lexeme) (d : Draft) → Fed m (standing r) t l free n s' (Ok d) → length (drafted_tokens (lexeme l) d) ≤ free
+    pub fed_room : (l : Lexeme) (d : Draft) → Fed (over m (standing r)) t l free (over n s') (Ok d) → length (drafted_tokens (lexeme l) d) ≤ free
     fed_room l d (Fed.accepted x e b run enough tokens state took) = omega (arith, ap length tokens)
 
-    pub finished_room : (p : Place) (d : Draft) → Finished m (standing r) t p free n s' (Ok d) → length (drafted_tokens (ending p) d) ≤ free
+    pub finished_room : (p : Place) (d : Draft) → Finished (over m (standing r)) t p free (over n s') (Ok d) → length (drafted_tokens (ending p) d) ≤ free
     finished_room p d (Finished.accepted x e run whole enough tokens state took) = omega (arith, ap length tokens)
 
     -- a lexeme was accepted
-    pub fed_writes : (l : Lexeme) (d : Draft) (k : ℕ) (q q' : List Token) → Fed m (standing r) t l free n s' (Ok d) → q' ≡ q ++ drafted_tokens (lexeme l) d → k ≡ length (drafted_tokens (lexeme l) d) → Writes m (standing r) (feed t l free) (count k) q q' n s'
+    pub fed_writes : (l : Lexeme) (d : Draft) (k : ℕ) (q q' : List Token) → Fed (over m (standing r)) t l free (over n s') (Ok d) → q' ≡ q ++ drafted_tokens (lexeme l) d → k ≡ length (drafted_tokens (lexeme l) d) → Writes (over m (standing r)) (feed t l free) (count k) q q' (over n s')
     fed_writes l d k q q' (Fed.accepted x e b run enough tokens state took) list is =
-        subst (λ j. Writes m (standing r) (feed t l free) (count j) q q' n s') (ap length tokens ∙ sym is)
+        subst (λ j. Writes (over m (standing r)) (feed t l free) (count j) q q' (over n s')) (ap length tokens ∙ sym is)
         (record { tokens = x.tokens; list = list ∙ ap (λ ts. q ++ ts) (sym tokens); calls = record { left = _; does = feeds e b run enough; state = state; parser = took } })
 
     -- or not
-    pub fed_denied : (l : Lexeme) (why : Reason) (f : Fault) (q : List Token) → Fed m (standing r) t l free n s' (Err why) → f ≡ fault s' l.line l.column why → Writes m (standing r) (feed t l free) (refused f) q q n s'
+    pub fed_denied : (l : Lexeme) (why : Reason) (f : Fault) (q : List Token) → Fed (over m (standing r)) t l free (over n s') (Err why) → f ≡ fault s' l.line l.column why → Writes (over m (standing r)) (feed t l free) (refused f) q q (over n s')
     fed_denied l why f q (Fed.denied fails state took) is =
-        subst (λ (x : Fault). Writes m (standing r) (feed t l free) (refused x) q q n s') (sym (is ∙ ap (λ (s : State). fault s l.line l.column why) state))
+        subst (λ (x : Fault). Writes (over m (standing r)) (feed t l free) (refused x) q q (over n s')) (sym (is ∙ ap (λ (s : State). fault s l.line l.column why) state))
         (record { tokens = []; list = none_behind q; calls = record { left = standing r; does = feed_fails fails; state = state; parser = took } })
 
     -- the sheet was finished
-    pub finished_writes : (p : Place) (d : Draft) (k : ℕ) (q q' : List Token) → Finished m (standing r) t p free n s' (Ok d) → q' ≡ q ++ drafted_tokens (ending p) d → k ≡ length (drafted_tokens (ending p) d) → Writes m (standing r) (finish t p free) (count k) q q' n s'
+    pub finished_writes : (p : Place) (d : Draft) (k : ℕ) (q q' : List Token) → Finished (over m (standing r)) t p free (over n s') (Ok d) → q' ≡ q ++ drafted_tokens (ending p) d → k ≡ length (drafted_tokens (ending p) d) → Writes (over m (standing r)) (finish t p free) (count k) q q' (over n s')
     finished_writes p d k q q' (Finished.accepted x e run whole enough tokens state took) list is =
-        subst (λ j. Writes m (standing r) (finish t p free) (count j) q q' n s') (ap length tokens ∙ sym is)
+        subst (λ j. Writes (over m (standing r)) (finish t p free) (count j) q q' (over n s')) (ap length tokens ∙ sym is)
         (record { tokens = x.tokens; list = list ∙ ap (λ ts. q ++ ts) (sym tokens); calls = record { left = _; does = finishes e run whole enough; state = state; parser = took } })
 
     -- or not
-    pub finished_denied : (p : Place) (why : Reason) (f : Fault) (q : List Token) → Finished m (standing r) t p free n s' (Err why) → f ≡ fault s' p.line p.column why → Writes m (standing r) (finish t p free) (refused f) q q n s'
+    pub finished_denied : (p : Place) (why : Reason) (f : Fault) (q : List Token) → Finished (over m (standing r)) t p free (over n s') (Err why) → f ≡ fault s' p.line p.column why → Writes (over m (standing r)) (finish t p free) (refused f) q q (over n s')
     finished_denied p why f q (Finished.denied fails state took) is =
-        subst (λ (x : Fault). Writes m (standing r) (finish t p free) (refused x) q q n s') (sym (is ∙ ap (λ (s : State). fault s p.line p.column why) state))
+        subst (λ (x : Fault). Writes (over m (standing r)) (finish t p free) (refused x) q q (over n s')) (sym (is ∙ ap (λ (s : State). fault s p.line p.column why) state))
         (record { tokens = []; list = none_behind q; calls = record { left = standing r; does = finish_fails fails; state = state; parser = took } })

@@ -4,6 +4,7 @@ use Rattle.std.proofs.lemmas.List.{append_assoc, append-nil, map-append}
 use Rattle.parser.specs.Meaning.{Meaning, started}
 use Rattle.parser.specs.Sets.{Lists, Same}
 use Rattle.sheet.specs.declared.lexeme.Token.{Token}
+use Rattle.layout.specs.Calling.{over}
 use Rattle.layout.specs.Journaled.{Noted, Replayed, answers, written_in}
 use Rattle.layout.specs.Law.{AlikeLaw}
 use Rattle.layout.specs.Moves.{Took}
@@ -30,7 +31,7 @@ pub replaying_none : (G : Lists) (reach first : ℕ) (m n : Meaning) (z : State)
 replaying_none G reach first m n z xs ts same is state took no-answers no-tokens =
     record { so_far = record { events = []; last = new first; run = none; calls = refl; answers = sym no-answers; tokens = sym no-tokens }; tied = tied_new G reach first m n z same is state took }
 
-pub replaying_more : (G : Lists) (reach first : ℕ) (cs : List Call) (xs xs' : List Answer) (ts ts' : List Token) (m n : Meaning) (z z' : State) (c : Call) → Replaying G reach first cs xs ts m z → Noted m z c xs xs' ts ts' n z' → Replaying G reach first (cs ++ c ∷ []) xs' ts' n z'
+pub replaying_more : (G : Lists) (reach first : ℕ) (cs : List Call) (xs xs' : List Answer) (ts ts' : List Token) (m n : Meaning) (z z' : State) (c : Call) → Replaying G reach first cs xs ts m z → Noted (over m z) c xs xs' ts ts' (over n z') → Replaying G reach first (cs ++ c ∷ []) xs' ts' n z'
 replaying_more G reach first cs xs xs' ts ts' m n z z' c so x =
     let r = so.so_far in
     let e : Event = record { call = c; answer = x.answer; tokens = x.tokens } in

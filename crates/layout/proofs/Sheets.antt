@@ -6,7 +6,7 @@ use Rattle.sheet.specs.declared.fault.Reason.{Reason}
 use Rattle.sheet.specs.declared.fault.Reason.TheVariants.{BadLexeme, WrongTicket}
 use Rattle.sheet.specs.declared.lexeme.Lexeme.{Lexeme}
 use Rattle.sheet.specs.declared.lexeme.Place.{Place}
-use Rattle.layout.specs.Calling.{Fed, Finished, next_of, shut, standing}
+use Rattle.layout.specs.Calling.{Fed, Finished, next_of, over, shut, standing}
 use Rattle.layout.specs.Contexts.{stack}
 use Rattle.layout.specs.Drafts.{contexts_of}
 use Rattle.layout.specs.Limits.{Laid, Runs}
@@ -36,34 +36,34 @@ moves_sound r m c free before now d (Moves.accepted x (Tries.fits run w f) token
 
 module _ (m : Meaning) (s : State) (t : ℕ) (free : ℕ) where
   -- refused before the rules are asked
-  pub fed_wrong : (l : Lexeme) → (s.sheet ≡ Some t → ⊥) → Fed m s t l free m s (Err WrongTicket)
+  pub fed_wrong : (l : Lexeme) → (s.sheet ≡ Some t → ⊥) → Fed (over m s) t l free (over m s) (Err WrongTicket)
   fed_wrong l n = Fed.denied (FeedFails.wrong_ticket n) refl (took_none m)
 
-  pub fed_bad : (l : Lexeme) → s.sheet ≡ Some t → (Good l → ⊥) → Fed m s t l free m s (Err BadLexeme)
+  pub fed_bad : (l : Lexeme) → s.sheet ≡ Some t → (Good l → ⊥) → Fed (over m s) t l free (over m s) (Err BadLexeme)
   fed_bad l e n = Fed.denied (FeedFails.bad_lexeme e n) refl (took_none m)
 
-  pub finished_wrong : (p : Place) → (s.sheet ≡ Some t → ⊥) → Finished m s t p free m s (Err WrongTicket)
+  pub finished_wrong : (p : Place) → (s.sheet ≡ Some t → ⊥) → Finished (over m s) t p free (over m s) (Err WrongTicket)
   finished_wrong p n = Finished.denied (FinishFails.wrong_ticket n) refl (took_none m)
 
 module _ {P : Type 0} (r : Resolver P) (m n : Meaning) (t free : ℕ) where
   -- refused by the rules, or for want of room
-  pub fed_refused : (l : Lexeme) (s' : State) (why : Reason) → r.sheet ≡ Some t → Good l → s' ≡ standing r → Moves r.contexts (stack r.contexts r.depth) (mark_of r.before l) (lexeme l) free m n (Err why) → Fed m (standing r) t l free n s' (Err why)
+  pub fed_refused : (l : Lexeme) (s' : State) (why : Reason) → r.sheet ≡ Some t → Good l → s' ≡ standing r → Moves r.contexts (stack r.contexts r.depth) (mark_of r.before l) (lexeme l) free m n (Err why) → Fed (over m (standing r)) t l free (over n s') (Err why)
   fed_refused l s' why e b same (Moves.refused (Tries.stopped run) took) = Fed.denied (FeedFails.stopped e b (from_start run)) same took
   fed_refused l s' why e b same (Moves.refused (Tries.not_whole run w) took) = absurd (w tt)
   fed_refused l s' why e b same (Moves.refused (Tries.no_room run w f) took) = Fed.denied (FeedFails.no_room e b (from_start run) f) same took
 
-  pub finished_refused : (p : Place) (s' : State) (why : Reason) → r.sheet ≡ Some t → s' ≡ standing r → Moves r.contexts (stack r.contexts r.depth) (end_mark r.before) (ending p) free m n (Err why) → Finished m (standing r) t p free n s' (Err why)
+  pub finished_refused : (p : Place) (s' : State) (why : Reason) → r.sheet ≡ Some t → s' ≡ standing r → Moves r.contexts (stack r.contexts r.depth) (end_mark r.before) (ending p) free m n (Err why) → Finished (over m (standing r)) t p free (over n s') (Err why)
   finished_refused p s' why e same (Moves.refused (Tries.stopped run) took) = Finished.denied (FinishFails.stopped e (from_start run)) same took
   finished_refused p s' why e same (Moves.refused (Tries.not_whole run w) took) = Finished.denied (FinishFails.not_complete e (from_start run) w) same took
   finished_refused p s' why e same (Moves.refused (Tries.no_room run w f) took) = Finished.denied (FinishFails.no_room e (from_start run) w f) same took
 
   -- accepted
   pub fed_accepted : (l : Lexeme) (s' : State) (d : Draft) → r.sheet ≡ Some t → Good l → s' ≡ record { sheet = r.sheet; next = next_of r.next; contexts = contexts_of r.contexts d; before = after l.kind; written = [] }
-      → Moves r.contexts (stack r.contexts r.depth) (mark_of r.before l) (lexeme l) free m n (Ok d) → Fed m (standing r) t l free n s' (Ok d)
+      → Moves r.contexts (stack r.contexts r.depth) (mark_of r.before l) (lexeme l) free m n (Ok d) → Fed (over m (standing r)) t l free (over n s') (Ok d)
   fed_accepted l s' d e b same (Moves.accepted x (Tries.fits run w f) tokens contexts shallow took) =
       Fed.accepted x e b (from_start run) f tokens (same ∙ ap (λ ks. record { sheet = r.sheet; next = next_of r.next; contexts = ks; before = after l.kind; written = [] }) (sym contexts)) took
 
-  pub finished_accepted : (p : Place) (s' : State) (d : Draft) → r.sheet ≡ Some t → s' ≡ shut (standing r) → Moves r.contexts (stack r.contexts r.depth) (end_mark r.before) (ending p) free m n (Ok d) → Finished m (standing r) t p free n s' (Ok d)
+  pub finished_accepted : (p : Place) (s' : State) (d : Draft) → r.sheet ≡ Some t → s' ≡ shut (standing r) → Moves r.contexts (stack r.contexts r.depth) (end_mark r.before) (ending p) free m n (Ok d) → Finished (over m (standing r)) t p free (over n s') (Ok d)
   finished_accepted p s' d e same (Moves.accepted x (Tries.fits run w f) tokens contexts shallow took) = Finished.accepted x e (from_start run) w f tokens same took
 
 -- all but the parser is as before, so the sheet stands as before

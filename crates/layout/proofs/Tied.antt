@@ -8,7 +8,7 @@ use Rattle.sheet.specs.declared.fault.Reason.{Reason}
 use Rattle.sheet.specs.declared.lexeme.Lexeme.{Lexeme}
 use Rattle.sheet.specs.declared.lexeme.Place.{Place}
 use Rattle.sheet.specs.declared.lexeme.Token.{Token}
-use Rattle.layout.specs.Calling.{Calls, anew, from}
+use Rattle.layout.specs.Calling.{anew, Calls, from, over}
 use Rattle.layout.specs.Limits.{Laid, Runs}
 use Rattle.layout.specs.Moves.{Took}
 use Rattle.layout.specs.Service.{Does, FeedFails, FinishFails, State, begin_open, begin_spent, begins, feed_fails, feeds, finish_fails, finishes, give_up_fails, gives_up, new}
@@ -122,7 +122,7 @@ module _ (G : Lists) (reach : ℕ) (s : State) (m n : Meaning) (z z' : State) (t
   goes_on (finish t p free) a v s' e took state = takes_more v s' e took state
   goes_on (give_up t) a v s' e took state = takes_more v s' e took state
 
-  pub tied_step : (c : Call) (a : Answer) (ts : List Token) → Calls m z c a ts n z' → Stepped G reach s c a ts n z'
+  pub tied_step : (c : Call) (a : Answer) (ts : List Token) → Calls (over m z) c a ts (over n z') → Stepped G reach s c a ts n z'
   tied_step c a ts x =
       let moved = shift G m.remainder reach m.left s tied.remainder tied.left (subst (λ (y : State). Does m.remainder m.left y c a ts x.left) tied.state x.does) in
       record { to = moved.to; does = moved.does; tied = goes_on c a x.left.written moved.to moved.written x.parser (x.state ∙ sym moved.same) }

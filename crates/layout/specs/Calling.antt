@@ -1,6 +1,6 @@
 -- The calls as the code makes them: from where a resolver stands to where it then stands. Assumes nothing.
 use Rattle.std.specs.Prelude.{◌≡◌, ℕ, ◌^◌, ◌≤◌, List, [], ◌++◌, length, Some, None, Ok, Err, Option, Result}
-use Rattle.parser.specs.Meaning.{Meaning, started}
+use Rattle.parser.specs.Meaning.{Meaning, Parts, meaning, started}
 use Rattle.sheet.specs.declared.fault.Fault.{Fault}
 use Rattle.sheet.specs.declared.fault.Reason.{Reason}
 use Rattle.sheet.specs.declared.lexeme.Lexeme.{Lexeme}
@@ -40,17 +40,30 @@ shut s = record { sheet = None; next = s.next; contexts = []; before = s.before;
 abbrev pub anew : State → State
 anew s = record { sheet = s.sheet; next = s.next; contexts = s.contexts; before = s.before; written = [] }
 
+-- a sheet over a parser that took its tokens so far
+pub record Stand : Type 1 where
+  pub parser : Meaning
+  pub sheet : State
+
+-- a sheet that stands so, over a parser of this meaning
+abbrev pub over : Meaning → State → Stand
+over m s = record { parser = m; sheet = s }
+
+-- where a resolver stands, with its parser
+abbrev pub stand : {P : Type 0} → Parts P → Resolver P → Stand
+stand parts r = over (meaning parts r.parser) (standing r)
+
 -- a lexeme is accepted, with a draft of its tokens, or nothing is altered
-pub data Fed (m : Meaning) (s : State) (t : ℕ) (l : Lexeme) (free : ℕ) (n : Meaning) (s' : State) : Result Draft Reason → Type 0 where
-  accepted : {d : Draft} (x : Laid) → s.sheet ≡ Some t → Good l → Feeds m.remainder m.left s l (Ok x) → length x.tokens ≤ free → x.tokens ≡ drafted_tokens (lexeme l) d
-      → s' ≡ record { sheet = s.sheet; next = s.next; contexts = x.contexts; before = after l.kind; written = [] } → Took (kinds x.tokens) m n → Fed m s t l free n s' (Ok d)
-  denied : {why : Reason} → FeedFails m.remainder m.left s t l free why → s' ≡ s → Took [] m n → Fed m s t l free n s' (Err why)
+pub data Fed (a : Stand) (t : ℕ) (l : Lexeme) (free : ℕ) (b : Stand) : Result Draft Reason → Type 0 where
+  accepted : {d : Draft} (x : Laid) → a.sheet.sheet ≡ Some t → Good l → Feeds a.parser.remainder a.parser.left a.sheet l (Ok x) → length x.tokens ≤ free → x.tokens ≡ drafted_tokens (lexeme l) d
+      → b.sheet ≡ record { sheet = a.sheet.sheet; next = a.sheet.next; contexts = x.contexts; before = after l.kind; written = [] } → Took (kinds x.tokens) a.parser b.parser → Fed a t l free b (Ok d)
+  denied : {why : Reason} → FeedFails a.parser.remainder a.parser.left a.sheet t l free why → b.sheet ≡ a.sheet → Took [] a.parser b.parser → Fed a t l free b (Err why)
 
 -- a sheet is finished, with a draft of its last tokens, or nothing is altered
-pub data Finished (m : Meaning) (s : State) (t : ℕ) (p : Place) (free : ℕ) (n : Meaning) (s' : State) : Result Draft Reason → Type 0 where
-  accepted : {d : Draft} (x : Laid) → s.sheet ≡ Some t → Finishes m.remainder m.left s p (Ok x) → m.remainder (kinds x.tokens) → length x.tokens ≤ free → x.tokens ≡ drafted_tokens (ending p) d
-      → s' ≡ shut s → Took (kinds x.tokens) m n → Finished m s t p free n s' (Ok d)
-  denied : {why : Reason} → FinishFails m.remainder m.left s t p free why → s' ≡ s → Took [] m n → Finished m s t p free n s' (Err why)
+pub data Finished (a : Stand) (t : ℕ) (p : Place) (free : ℕ) (b : Stand) : Result Draft Reason → Type 0 where
+  accepted : {d : Draft} (x : Laid) → a.sheet.sheet ≡ Some t → Finishes a.parser.remainder a.parser.left a.sheet p (Ok x) → a.parser.remainder (kinds x.tokens) → length x.tokens ≤ free → x.tokens ≡ drafted_tokens (ending p) d
+      → b.sheet ≡ shut a.sheet → Took (kinds x.tokens) a.parser b.parser → Finished a t p free b (Ok d)
+  denied : {why : Reason} → FinishFails a.parser.remainder a.parser.left a.sheet t p free why → b.sheet ≡ a.sheet → Took [] a.parser b.parser → Finished a t p free b (Err why)
 
 -- the parser from which a call goes on: begin starts it anew
 abbrev pub begun : Answer → Meaning → Meaning
@@ -66,17 +79,17 @@ from (finish t p free) a m = m
 from (give_up t) a m = m
 
 -- a call on a resolver is one of the service whose language is what the parser may still take: what it answers, writes and leaves
-pub record Calls (m : Meaning) (s : State) (c : Call) (a : Answer) (ts : List Token) (n : Meaning) (s' : State) : Type 0 where
+pub record Calls (x : Stand) (c : Call) (a : Answer) (ts : List Token) (y : Stand) : Type 0 where
   pub left : State
-  pub does : Does m.remainder m.left s c a ts left
-  pub state : s' ≡ anew left
-  pub parser : Took left.written (from c a m) n
+  pub does : Does x.parser.remainder x.parser.left x.sheet c a ts left
+  pub state : y.sheet ≡ anew left
+  pub parser : Took left.written (from c a x.parser) y.parser
 
 -- a call that writes into a queue
-pub record Writes (m : Meaning) (s : State) (c : Call) (a : Answer) (q q' : List Token) (n : Meaning) (s' : State) : Type 0 where
+pub record Writes (x : Stand) (c : Call) (a : Answer) (q q' : List Token) (y : Stand) : Type 0 where
   pub tokens : List Token
   pub list : q' ≡ q ++ tokens
-  pub calls : Calls m s c a tokens n s'
+  pub calls : Calls x c a tokens y
 
 -- what begin, feed, finish and give up answer
 abbrev pub begin_answer : Result Ticket Fault → Answer

@@ -1,9 +1,8 @@
 -- Runs of calls that were made and written down. Assumes nothing.
 use Rattle.std.specs.Prelude.{◌≡◌, ℕ, List, [], ◌∷◌, ◌++◌, map}
-use Rattle.parser.specs.Meaning.{Meaning}
 use Rattle.parser.specs.Sets.{Lists}
 use Rattle.sheet.specs.declared.lexeme.Token.{Token}
-use Rattle.layout.specs.Calling.{Calls}
+use Rattle.layout.specs.Calling.{Calls, Stand}
 use Rattle.layout.specs.Law.{calls}
 use Rattle.layout.specs.Service.{Event, Run, State, new}
 use Rattle.layout.specs.declared.call.Answer.{Answer}
@@ -36,9 +35,9 @@ pub record Replayed (G : Lists) (reach first : ℕ) (cs : List Call) (xs : List 
   pub tokens : written_in events ≡ ts
 
 -- one more call, with its answer and tokens written down behind the others
-pub record Noted (m : Meaning) (s : State) (c : Call) (xs xs' : List Answer) (ts ts' : List Token) (n : Meaning) (s' : State) : Type 0 where
+pub record Noted (x : Stand) (c : Call) (xs xs' : List Answer) (ts ts' : List Token) (y : Stand) : Type 0 where
   pub answer : Answer
   pub tokens : List Token
-  pub calls : Calls m s c answer tokens n s'
+  pub calls : Calls x c answer tokens y
   pub answered : xs' ≡ xs ++ answer ∷ []
   pub wrote : ts' ≡ ts ++ tokens

@@ -1,9 +1,8 @@
 // Runs of calls on a new resolver, made one after another and written down. The law of every run stands here.
 ghost use Rattle.std.specs.Prelude.{◌≡◌, ◌≤◌, [], ◌++◌, IfOk, OnOk};
-ghost use Rattle.parser.specs.Meaning.{meaning};
 ghost use Rattle.parser.specs.Sets.{Same};
 ghost use Rattle.queue.specs.Waiting.{room, waiting};
-ghost use Rattle.layout.specs.Calling.{Writes, standing};
+ghost use Rattle.layout.specs.Calling.{stand, Writes};
 ghost use Rattle.layout.specs.Journaled.{Noted, Replayed, free_places};
 ghost use Rattle.layout.specs.Law.{Law};
 
@@ -55,7 +54,7 @@ fn refusal(refused: Refusal) -> Fault
 // Makes a call with a ticket of the number that it says.
 fn make<P: Stepping>(resolver: &mut Resolver<P>, call: Call, queue: &mut Queue<'_, Token>) -> Answer
     requires { free_places call ≡ room queue.old }
-    ensures { Writes (meaning P.Stepping resolver.old.parser) (standing resolver.old) call result (waiting queue.old) (waiting queue.new) (meaning P.Stepping resolver.new.parser) (standing resolver.new) }
+    ensures { Writes (stand P.Stepping resolver.old) call result (waiting queue.old) (waiting queue.new) (stand P.Stepping resolver.new) }
 {
     match call {
         Call::Begin => match resolver.begin() {
@@ -100,7 +99,7 @@ fn note<P: Stepping>(
     call: Call,
     journal: &mut Journal,
 ) -> Result<(), AllocError>
-    ensures { OnOk result (Noted (meaning P.Stepping resolver.old.parser) (standing resolver.old) call journal.old.answers.items journal.new.answers.items journal.old.tokens.items journal.new.tokens.items (meaning P.Stepping resolver.new.parser) (standing resolver.new)) }
+    ensures { OnOk result (Noted (stand P.Stepping resolver.old) call journal.old.answers.items journal.new.answers.items journal.old.tokens.items journal.new.tokens.items (stand P.Stepping resolver.new)) }
 {
     let mut places = [Token::default(); MOST_FREE];
     let mut queue = Queue::new(&mut places[..usize::from(call.free())]);

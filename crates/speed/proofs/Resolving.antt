@@ -6,7 +6,7 @@ use Rattle.parser.specs.Sets.{Lists}
 use Rattle.sheet.specs.declared.fault.Fault.{Fault}
 use Rattle.sheet.specs.declared.lexeme.Place.{Place}
 use Rattle.sheet.specs.declared.lexeme.Token.{Token}
-use Rattle.layout.specs.Calling.{Calls, Writes, anew, begin_answer, shut}
+use Rattle.layout.specs.Calling.{anew, begin_answer, Calls, over, shut, Writes}
 use Rattle.layout.specs.Service.{Does, State, begin_open, begin_spent, begins, gives_up, new}
 use Rattle.layout.specs.declared.call.Answer.TheVariants.{Ticket as ticket, Count as count, Closed as closed, Refused as refused}
 use Rattle.layout.specs.declared.call.Call.TheVariants.{Begin as begin, Finish as finish, GiveUp as give_up}
@@ -30,7 +30,7 @@ gives : {G : Lists} {reach : ℕ} {s : State} {t : ℕ} {us : List Token} {s' : 
 gives (gives_up e) = refl
 
 -- something was refused: the sheet is given up
-given : {m n : Meaning} {s s' : State} {t : ℕ} {us : List Token} (p : Place) (ts : List Token) (fs : List Fault) → some fs ≡ true → s.sheet ≡ Some t → Calls m s (give_up t) closed us n s' → EndsWith m s t p ts [] fs [] s'
+given : {m n : Meaning} {s s' : State} {t : ℕ} {us : List Token} (p : Place) (ts : List Token) (fs : List Fault) → some fs ≡ true → s.sheet ≡ Some t → Calls (over m s) (give_up t) closed us (over n s') → EndsWith (over m s) t p ts [] fs [] s'
 given p ts [] e opened c = let z : ◌≡◌ {A = ℕ} 0 1 = cc in absurd (omega arith)
 given {s = s} p ts (f ∷ fs) e opened c =
     record {
@@ -40,24 +40,24 @@ given {s = s} p ts (f ∷ fs) e opened c =
       faults = sym (append-nil (f ∷ fs));
     }
 
-pub closes_given_up : {m n : Meaning} {s s' : State} {t : ℕ} {us : List Token} (p : Place) (a : Tally) → a.refused ≡ true → s.sheet ≡ Some t → Calls m s (give_up t) closed us n s' → Closes m s t p a a.sum s'
+pub closes_given_up : {m n : Meaning} {s s' : State} {t : ℕ} {us : List Token} (p : Place) (a : Tally) → a.refused ≡ true → s.sheet ≡ Some t → Calls (over m s) (give_up t) closed us (over n s') → Closes (over m s) t p a a.sum s'
 closes_given_up p a e opened c = record { tokens = []; faults = []; ends = λ ts fs is. given p ts fs (sym is ∙ e) opened c; sum = λ fits. omega arith }
 
 module _ (m n : Meaning) (s s' : State) (t : ℕ) (p : Place) (free : ℕ) (enough : free ≡ places) (q q' : List Token) (empty : q ≡ []) (a : Tally) (clean : a.refused ≡ false) where
   -- nothing was refused
-  finishing : (k : ℕ) (ts : List Token) (fs : List Fault) → some fs ≡ false → Writes m s (finish t p free) (count k) q q' n s' → EndsWith m s t p ts q' fs [] s'
+  finishing : (k : ℕ) (ts : List Token) (fs : List Fault) → some fs ≡ false → Writes (over m s) (finish t p free) (count k) q q' (over n s') → EndsWith (over m s) t p ts q' fs [] s'
   finishing k ts [] e w = record { outcome = Ok (ts ++ q'); ended = ended_finished m n s s' t p free enough q q' empty ts k (Ok (ts ++ q')) (ts ++ q') w refl refl; tokens = refl; faults = refl }
   finishing k ts (f ∷ fs) e w = let z : ◌≡◌ {A = ℕ} 0 1 = cc in absurd (omega arith)
 
-  pub closes_finished : (k r : ℕ) → Writes m s (finish t p free) (count k) q q' n s' → r ≡ (a.sum + sum_by token_weight q') % 2 ^ 64 → Closes m s t p a r s'
+  pub closes_finished : (k r : ℕ) → Writes (over m s) (finish t p free) (count k) q q' (over n s') → r ≡ (a.sum + sum_by token_weight q') % 2 ^ 64 → Closes (over m s) t p a r s'
   closes_finished k r w e = record { tokens = q'; faults = []; ends = λ ts fs is. finishing k ts fs (sym is ∙ clean) w; sum = λ fits. e ∙ ap (λ n. (a.sum + n) % 2 ^ 64) (omega arith) }
 
   -- nothing was refused but finish
-  failing : (o : Meaning) (s'' : State) (f : Fault) (us : List Token) (ts : List Token) (fs : List Fault) → some fs ≡ false → Writes m s (finish t p free) (refused f) q q' n s' → s'.sheet ≡ Some t → Calls n s' (give_up t) closed us o s'' → EndsWith m s t p ts [] fs (f ∷ []) s''
+  failing : (o : Meaning) (s'' : State) (f : Fault) (us : List Token) (ts : List Token) (fs : List Fault) → some fs ≡ false → Writes (over m s) (finish t p free) (refused f) q q' (over n s') → s'.sheet ≡ Some t → Calls (over n s') (give_up t) closed us (over o s'') → EndsWith (over m s) t p ts [] fs (f ∷ []) s''
   failing o s'' f us ts [] e w opened g = record { outcome = Err (f ∷ []); ended = ended_unfinished m n s s' t p free enough q q' empty ts o s'' f us w opened g; tokens = sym (append-nil ts); faults = refl }
   failing o s'' f us ts (h ∷ fs) e w opened g = let z : ◌≡◌ {A = ℕ} 0 1 = cc in absurd (omega arith)
 
-  pub closes_unfinished : (o : Meaning) (s'' : State) (f : Fault) (us : List Token) (r : ℕ) → Writes m s (finish t p free) (refused f) q q' n s' → s'.sheet ≡ Some t → Calls n s' (give_up t) closed us o s'' → r ≡ (a.sum + weight (Err f)) % 2 ^ 64 → Closes m s t p a r s''
+  pub closes_unfinished : (o : Meaning) (s'' : State) (f : Fault) (us : List Token) (r : ℕ) → Writes (over m s) (finish t p free) (refused f) q q' (over n s') → s'.sheet ≡ Some t → Calls (over n s') (give_up t) closed us (over o s'') → r ≡ (a.sum + weight (Err f)) % 2 ^ 64 → Closes (over m s) t p a r s''
   closes_unfinished o s'' f us r w opened g e = record { tokens = []; faults = f ∷ []; ends = λ ts fs is. failing o s'' f us ts fs (sym is ∙ clean) w opened g; sum = λ fits. e ∙ ap (λ n. (a.sum + n) % 2 ^ 64) (omega arith) }
 
 -- a sheet that was begun
@@ -67,7 +67,7 @@ begun_none k (begins e n) = refl
 begins_there : {G H : Lists} {reach other : ℕ} {s s' : State} {us : List Token} (k : ℕ) → Does G reach s begin (ticket k) us s' → Does H other s begin (ticket k) [] (anew s')
 begins_there k (begins e n) = begins e n
 
-pub resolved : (m n o : Meaning) (s s₁ s₂ s₃ : State) (k : ℕ) (us : List Token) (text : List ℕ) (p : Place) (a b : Tally) (r : ℕ) → s ≡ new 0 → Calls m s begin (ticket k) us n s₁ → a.sum ≡ 0 → a.refused ≡ false → Adds n s₁ k (told text) a b o s₂ → p ≡ end_of text → Closes o s₂ k p b r s₃ → Resolved m.language m.reach text r
+pub resolved : (m n o : Meaning) (s s₁ s₂ s₃ : State) (k : ℕ) (us : List Token) (text : List ℕ) (p : Place) (a b : Tally) (r : ℕ) → s ≡ new 0 → Calls (over m s) begin (ticket k) us (over n s₁) → a.sum ≡ 0 → a.refused ≡ false → Adds (over n s₁) k (told text) a b (over o s₂) → p ≡ end_of text → Closes (over o s₂) k p b r s₃ → Resolved m.language m.reach text r
 resolved m n o s s₁ s₂ s₃ k us text p a b r is c zero clean x place y =
     let ts = x.tokens in
     let fs = x.faults in

@@ -2,9 +2,8 @@
 ghost use Rattle.std.specs.Prelude.{◌≡◌, ◌+◌, ◌%◌, ◌^◌, true, [], ◌∷◌, map, Some as open_sheet, Ok as told_lexeme, Err as told_fault, sum_by};
 ghost use Rattle.grammar.specs.Grammar.{LanguageOf};
 ghost use Rattle.grammar.specs.Sheet.{sheet as sheet_grammar};
-ghost use Rattle.parser.specs.Meaning.{meaning};
 ghost use Rattle.queue.specs.Waiting.{capacity, waiting};
-ghost use Rattle.layout.specs.Calling.{Calls, standing};
+ghost use Rattle.layout.specs.Calling.{Calls, stand, standing};
 ghost use Rattle.layout.specs.Service.{new};
 ghost use Rattle.layout.specs.declared.call.Answer.TheVariants.{Closed as closed_answer};
 ghost use Rattle.layout.specs.declared.call.Call.TheVariants.{GiveUp as give_up_call};
@@ -86,8 +85,8 @@ fn feed_one<P: Stepping>(
 )
     requires empty { waiting tokens.old ≡ [] }
     requires places { capacity tokens.old ≡ 128 }
-    ensures within { Within (meaning P.Stepping resolver.old.parser) (standing resolver.old) (meaning P.Stepping resolver.new.parser) (standing resolver.new) }
-    ensures adds { Adds (meaning P.Stepping resolver.old.parser) (standing resolver.old) ticket.now.number (told_lexeme lexeme ∷ []) tally.old tally.new (meaning P.Stepping resolver.new.parser) (standing resolver.new) }
+    ensures within { Within (stand P.Stepping resolver.old) (stand P.Stepping resolver.new) }
+    ensures adds { Adds (stand P.Stepping resolver.old) ticket.now.number (told_lexeme lexeme ∷ []) tally.old tally.new (stand P.Stepping resolver.new) }
     ensures emptied { waiting tokens.new ≡ [] }
     ensures size { capacity tokens.new ≡ capacity tokens.old }
 {
@@ -107,8 +106,8 @@ fn feed_waiting<P: Stepping>(
 )
     requires empty { waiting tokens.old ≡ [] }
     requires places { capacity tokens.old ≡ 128 }
-    ensures within { Within (meaning P.Stepping resolver.old.parser) (standing resolver.old) (meaning P.Stepping resolver.new.parser) (standing resolver.new) }
-    ensures adds { Adds (meaning P.Stepping resolver.old.parser) (standing resolver.old) ticket.now.number (map told_lexeme (waiting lexemes.old)) tally.old tally.new (meaning P.Stepping resolver.new.parser) (standing resolver.new) }
+    ensures within { Within (stand P.Stepping resolver.old) (stand P.Stepping resolver.new) }
+    ensures adds { Adds (stand P.Stepping resolver.old) ticket.now.number (map told_lexeme (waiting lexemes.old)) tally.old tally.new (stand P.Stepping resolver.new) }
     ensures taken { waiting lexemes.new ≡ [] }
     ensures emptied { waiting tokens.new ≡ [] }
     ensures read_size { capacity lexemes.new ≡ capacity lexemes.old }
@@ -129,8 +128,8 @@ fn feed_all<P: Stepping>(
 ) -> Place
     requires empty { waiting tokens.old ≡ [] }
     requires places { capacity tokens.old ≡ 128 }
-    ensures within { Within (meaning P.Stepping resolver.old.parser) (standing resolver.old) (meaning P.Stepping resolver.new.parser) (standing resolver.new) }
-    ensures adds { Adds (meaning P.Stepping resolver.old.parser) (standing resolver.old) ticket.now.number (told (readable text.now)) tally.old tally.new (meaning P.Stepping resolver.new.parser) (standing resolver.new) }
+    ensures within { Within (stand P.Stepping resolver.old) (stand P.Stepping resolver.new) }
+    ensures adds { Adds (stand P.Stepping resolver.old) ticket.now.number (told (readable text.now)) tally.old tally.new (stand P.Stepping resolver.new) }
     ensures place { result ≡ end_of (readable text.now) }
     ensures emptied { waiting tokens.new ≡ [] }
     ensures size { capacity tokens.new ≡ capacity tokens.old }
@@ -151,7 +150,7 @@ fn feed_all<P: Stepping>(
 // Gives up the open sheet.
 fn give_up<P: Stepping>(ticket: Ticket, resolver: &mut Resolver<P>)
     requires { (standing resolver.old).sheet ≡ open_sheet ticket.number }
-    ensures { Calls (meaning P.Stepping resolver.old.parser) (standing resolver.old) (give_up_call ticket.number) closed_answer [] (meaning P.Stepping resolver.new.parser) (standing resolver.new) }
+    ensures { Calls (stand P.Stepping resolver.old) (give_up_call ticket.number) closed_answer [] (stand P.Stepping resolver.new) }
 {
     ticket.give_up(resolver).unwrap();
 }
@@ -167,7 +166,7 @@ fn conclude<P: Stepping>(
     requires sheet { (standing resolver.old).sheet ≡ open_sheet ticket.number }
     requires empty { waiting tokens.old ≡ [] }
     requires places { capacity tokens.old ≡ 128 }
-    ensures { Closes (meaning P.Stepping resolver.old.parser) (standing resolver.old) ticket.number «end» tally result (standing resolver.new) }
+    ensures { Closes (stand P.Stepping resolver.old) ticket.number «end» tally result (standing resolver.new) }
 {
     if tally.refused {
         give_up(ticket, resolver);

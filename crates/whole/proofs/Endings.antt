@@ -6,7 +6,7 @@ use Rattle.parser.specs.Sets.{Lists}
 use Rattle.sheet.specs.declared.fault.Fault.{Fault}
 use Rattle.sheet.specs.declared.lexeme.Place.{Place}
 use Rattle.sheet.specs.declared.lexeme.Token.{Token}
-use Rattle.layout.specs.Calling.{Calls, Writes, anew, give_up_answer, shut}
+use Rattle.layout.specs.Calling.{Stand, anew, Calls, give_up_answer, over, shut, Writes}
 use Rattle.layout.specs.Service.{Does, State, finish_fails, finishes, give_up_fails, gives_up}
 use Rattle.layout.specs.declared.call.Answer.TheVariants.{Count as count, Closed as closed, Refused as refused}
 use Rattle.layout.specs.declared.call.Call.TheVariants.{Finish as finish, GiveUp as give_up}
@@ -24,31 +24,31 @@ can_give_up (Err f) e (give_up_fails n) = absurd (n e)
 gives : {G : Lists} {reach : ℕ} {s : State} {t : ℕ} {us : List Token} {s' : State} → Does G reach s (give_up t) closed us s' → s' ≡ shut s
 gives (gives_up e) = refl
 
-pub gives_shut : {m n : Meaning} {s s' : State} {t : ℕ} {us : List Token} → Calls m s (give_up t) closed us n s' → Shut m n s'
+pub gives_shut : {m n : Meaning} {s s' : State} {t : ℕ} {us : List Token} → Calls (over m s) (give_up t) closed us (over n s') → Shut (over m s) (over n s')
 gives_shut c = record { parser = record { language = c.parser.language; reach = c.parser.reach }; sheet = ap (λ (z : State). z.sheet) (c.state ∙ ap anew (gives c.does)) }
 
 -- a finish that is accepted closes the sheet
 finish_closes : {G : Lists} {reach : ℕ} {s : State} {t : ℕ} {p : Place} {free k : ℕ} {us : List Token} {s' : State} → Does G reach s (finish t p free) (count k) us s' → s'.sheet ≡ None
 finish_closes (finishes e r g f) = refl
 
-pub finish_shut : {m n : Meaning} {s s' : State} {t : ℕ} {p : Place} {free k : ℕ} {q q' : List Token} → Writes m s (finish t p free) (count k) q q' n s' → Shut m n s'
+pub finish_shut : {m n : Meaning} {s s' : State} {t : ℕ} {p : Place} {free k : ℕ} {q q' : List Token} → Writes (over m s) (finish t p free) (count k) q q' (over n s') → Shut (over m s) (over n s')
 finish_shut x = let c = x.calls in record { parser = record { language = c.parser.language; reach = c.parser.reach }; sheet = ap (λ (z : State). z.sheet) c.state ∙ finish_closes c.does }
 
 -- one that is refused leaves it open
 finish_leaves : {G : Lists} {reach : ℕ} {s : State} {t : ℕ} {p : Place} {free : ℕ} {f : Fault} {us : List Token} {s' : State} → Does G reach s (finish t p free) (refused f) us s' → s' ≡ s
 finish_leaves (finish_fails w) = refl
 
-pub refused_open : {m n : Meaning} {s s' : State} {t : ℕ} {p : Place} {free : ℕ} {f : Fault} {q q' : List Token} → Writes m s (finish t p free) (refused f) q q' n s' → s'.sheet ≡ s.sheet
+pub refused_open : {m n : Meaning} {s s' : State} {t : ℕ} {p : Place} {free : ℕ} {f : Fault} {q q' : List Token} → Writes (over m s) (finish t p free) (refused f) q q' (over n s') → s'.sheet ≡ s.sheet
 refused_open x = let c = x.calls in ap (λ (z : State). z.sheet) (c.state ∙ ap anew (finish_leaves c.does))
 
-pub refused_same : {m n : Meaning} {s s' : State} {t : ℕ} {p : Place} {free : ℕ} {f : Fault} {q q' : List Token} → Writes m s (finish t p free) (refused f) q q' n s' → SameParser m n
+pub refused_same : {m n : Meaning} {s s' : State} {t : ℕ} {p : Place} {free : ℕ} {f : Fault} {q q' : List Token} → Writes (over m s) (finish t p free) (refused f) q q' (over n s') → SameParser m n
 refused_same x = let c = x.calls in record { language = c.parser.language; reach = c.parser.reach }
 
 unfinished_ends : {G : Lists} {reach : ℕ} {s : State} {t : ℕ} {p : Place} {f : Fault} {us : List Token} {s' : State} (ts : List Token) → Does G reach s (finish t p places) (refused f) us s' → s'.sheet ≡ Some t → Ends G reach s t p ts [] (Err (f ∷ [])) (shut s')
 unfinished_ends ts (finish_fails w) e = unfinished (finish_fails w) (gives_up e)
 
 module _ (m n : Meaning) (s s' : State) (t : ℕ) (p : Place) (free : ℕ) (enough : free ≡ places) (q q' : List Token) (empty : q ≡ []) (ts : List Token) where
-  pub ended_finished : (k : ℕ) (r : Result (List Token) (List Fault)) (ts' : List Token) → Writes m s (finish t p free) (count k) q q' n s' → ts' ≡ ts ++ q' → r ≡ Ok ts' → Ended m s t p ts [] r s'
+  pub ended_finished : (k : ℕ) (r : Result (List Token) (List Fault)) (ts' : List Token) → Writes (over m s) (finish t p free) (count k) q q' (over n s') → ts' ≡ ts ++ q' → r ≡ Ok ts' → Ended (over m s) t p ts [] r s'
   ended_finished k r ts' x e is =
       let c = x.calls in
       record {
@@ -59,7 +59,7 @@ module _ (m n : Meaning) (s s' : State) (t : ℕ) (p : Place) (free : ℕ) (enou
         state = c.state;
       }
 
-  pub ended_unfinished : (o : Meaning) (s'' : State) (f : Fault) (us : List Token) → Writes m s (finish t p free) (refused f) q q' n s' → s'.sheet ≡ Some t → Calls n s' (give_up t) closed us o s'' → Ended m s t p ts [] (Err (f ∷ [])) s''
+  pub ended_unfinished : (o : Meaning) (s'' : State) (f : Fault) (us : List Token) → Writes (over m s) (finish t p free) (refused f) q q' (over n s') → s'.sheet ≡ Some t → Calls (over n s') (give_up t) closed us (over o s'') → Ended (over m s) t p ts [] (Err (f ∷ [])) s''
   ended_unfinished o s'' f us x opened g =
       let c = x.calls in
       record {
@@ -68,7 +68,7 @@ module _ (m n : Meaning) (s s' : State) (t : ℕ) (p : Place) (free : ℕ) (enou
         state = g.state ∙ ap anew (gives g.does) ∙ ap (λ (z : State). anew (shut z)) c.state;
       }
 
-pub ended_given_up : {m n : Meaning} {s s' : State} {t : ℕ} {us : List Token} (p : Place) (ts : List Token) (fs : List Fault) → 0 < length fs → length fs ≤ most_faults → s.sheet ≡ Some t → Calls m s (give_up t) closed us n s' → Ended m s t p ts fs (Err fs) s'
+pub ended_given_up : {m n : Meaning} {s s' : State} {t : ℕ} {us : List Token} (p : Place) (ts : List Token) (fs : List Fault) → 0 < length fs → length fs ≤ most_faults → s.sheet ≡ Some t → Calls (over m s) (give_up t) closed us (over n s') → Ended (over m s) t p ts fs (Err fs) s'
 ended_given_up p ts [] some few opened c = absurd (omega arith)
 ended_given_up {m} {n} {s} {s'} {t} p ts (f ∷ fs) some few opened c =
     record {
@@ -88,7 +88,7 @@ all_faults [] (finished d) e = finished d
 all_faults (h ∷ fs) (finished d) e = absurd (let z : ◌≡◌ {A = ℕ} 0 1 = cc in omega arith)
 
 -- all that was fed, and then the end
-pub ran : {m n : Meaning} {s s' s'' : State} {t : ℕ} {p : Place} {ts₀ ts : List Token} {fs₀ fs : List Fault} {r : Result (List Token) (List Fault)} (text : List ℕ) → ts₀ ≡ [] → fs₀ ≡ [] → Keeps m s t (told text) ts₀ ts fs₀ fs n s' → p ≡ end_of text → Ended n s' t p ts fs r s'' → Ran m s t text r s''
+pub ran : {m n : Meaning} {s s' s'' : State} {t : ℕ} {p : Place} {ts₀ ts : List Token} {fs₀ fs : List Fault} {r : Result (List Token) (List Fault)} (text : List ℕ) → ts₀ ≡ [] → fs₀ ≡ [] → Keeps (over m s) t (told text) ts₀ ts fs₀ fs (over n s') → p ≡ end_of text → Ended (over n s') t p ts fs r s'' → Ran (over m s) t text r s''
 ran {m} {n} {s} {s'} {s''} {t} {p} {ts₀} {ts} {fs₀} {fs} {r} text no-tokens no-faults k place x =
     let y = k.fed in
     let u = y.left.written in
@@ -108,5 +108,5 @@ ran {m} {n} {s} {s'} {s''} {t} {p} {ts₀} {ts} {fs₀} {fs} {r} text no-tokens 
       state = x.state;
     }
 
-pub then_shut : {m n o : Meaning} {s : State} → SameParser m n → Shut n o s → Shut m o s
+pub then_shut : {x y z : Stand} → SameParser x.parser y.parser → Shut y z → Shut x z
 then_shut x y = record { parser = same_on x y.parser; sheet = y.sheet }

@@ -7,7 +7,7 @@ use Rattle.parser.proofs.Meanings.{same_trans}
 use Rattle.sheet.specs.declared.fault.Fault.{Fault}
 use Rattle.sheet.specs.declared.lexeme.Lexeme.{Lexeme}
 use Rattle.sheet.specs.declared.lexeme.Token.{Token}
-use Rattle.layout.specs.Calling.{Calls, Writes, anew}
+use Rattle.layout.specs.Calling.{anew, Calls, over, Writes}
 use Rattle.layout.specs.Moves.{Took}
 use Rattle.layout.specs.Service.{Does, State, feed_fails, feeds}
 use Rattle.layout.specs.declared.call.Answer.{Answer}
@@ -44,18 +44,18 @@ same_parser m = record { language = λ w. (λ h. h, λ h. h); reach = refl }
 pub same_on : {m n o : Meaning} → SameParser m n → SameParser n o → SameParser m o
 same_on x y = record { language = same_trans y.language x.language; reach = y.reach ∙ x.reach }
 
-pub within_none : (m : Meaning) (s : State) → Within m s m s
+pub within_none : (m : Meaning) (s : State) → Within (over m s) (over m s)
 within_none m s = record { parser = same_parser m; sheet = refl }
 
-pub within_on : {m n o : Meaning} {s s' s'' : State} → Within m s n s' → Within n s' o s'' → Within m s o s''
+pub within_on : {m n o : Meaning} {s s' s'' : State} → Within (over m s) (over n s') → Within (over n s') (over o s'') → Within (over m s) (over o s'')
 within_on x y = record { parser = same_on x.parser y.parser; sheet = y.sheet ∙ x.sheet }
 
 -- nothing was fed yet
-pub fed_none : (m : Meaning) (s : State) (t : ℕ) → Fed m (anew s) t [] [] [] m (anew s)
+pub fed_none : (m : Meaning) (s : State) (t : ℕ) → Fed (over m (anew s)) t [] [] [] (over m (anew s))
 fed_none m s t = record { left = anew s; feeding = none; state = refl; parser = took_none m }
 
 -- some and then others
-pub fed_on : {m n o : Meaning} {s s' s'' : State} {t : ℕ} {xs ys : List (Result Lexeme Fault)} {ts us : List Token} {fs gs : List Fault} → Fed m s t xs ts fs n s' → Fed n s' t ys us gs o s'' → Fed m s t (xs ++ ys) (ts ++ us) (fs ++ gs) o s''
+pub fed_on : {m n o : Meaning} {s s' s'' : State} {t : ℕ} {xs ys : List (Result Lexeme Fault)} {ts us : List Token} {fs gs : List Fault} → Fed (over m s) t xs ts fs (over n s') → Fed (over n s') t ys us gs (over o s'') → Fed (over m s) t (xs ++ ys) (ts ++ us) (fs ++ gs) (over o s'')
 fed_on {m} {n} {o} {s} {s'} {s''} {t} {xs} {ys} {ts} {us} {fs} {gs} x y =
     let u = x.left.written in
     let at : Feeding n.remainder n.left t (anew x.left) ys us gs y.left = subst (λ (z : State). Feeding n.remainder n.left t z ys us gs y.left) x.state y.feeding in
@@ -68,10 +68,10 @@ fed_on {m} {n} {o} {s} {s'} {s''} {t} {xs} {ys} {ts} {us} {fs} {gs} x y =
       parser = took_on x.parser y.parser;
     }
 
-pub keeps_none : (m : Meaning) (s : State) (t : ℕ) (ts : List Token) (fs : List Fault) → length fs ≤ most_faults → Keeps m (anew s) t [] ts ts fs fs m (anew s)
+pub keeps_none : (m : Meaning) (s : State) (t : ℕ) (ts : List Token) (fs : List Fault) → length fs ≤ most_faults → Keeps (over m (anew s)) t [] ts ts fs fs (over m (anew s))
 keeps_none m s t ts fs few = record { tokens = []; faults = []; fed = fed_none m s t; kept = sym (append-nil ts); noted = noted_none most_faults fs few }
 
-pub keeps_on : {m n o : Meaning} {s s' s'' : State} {t : ℕ} {xs ys : List (Result Lexeme Fault)} {ts ts' ts'' : List Token} {fs fs' fs'' : List Fault} → Keeps m s t xs ts ts' fs fs' n s' → Keeps n s' t ys ts' ts'' fs' fs'' o s'' → Keeps m s t (xs ++ ys) ts ts'' fs fs'' o s''
+pub keeps_on : {m n o : Meaning} {s s' s'' : State} {t : ℕ} {xs ys : List (Result Lexeme Fault)} {ts ts' ts'' : List Token} {fs fs' fs'' : List Fault} → Keeps (over m s) t xs ts ts' fs fs' (over n s') → Keeps (over n s') t ys ts' ts'' fs' fs'' (over o s'') → Keeps (over m s) t (xs ++ ys) ts ts'' fs fs'' (over o s'')
 keeps_on {ts = ts} {fs = fs} {fs' = fs'} {fs'' = fs''} x y =
     record {
       tokens = x.tokens ++ y.tokens;
@@ -82,16 +82,16 @@ keeps_on {ts = ts} {fs = fs} {fs' = fs'} {fs'' = fs''} x y =
     }
 
 -- a fault of the reader
-pub keeps_unread : (m : Meaning) (s : State) (t : ℕ) (f : Fault) (ts : List Token) (fs fs' : List Fault) → fs' ≡ take most_faults (fs ++ f ∷ []) → Keeps m (anew s) t (Err f ∷ []) ts ts fs fs' m (anew s)
+pub keeps_unread : (m : Meaning) (s : State) (t : ℕ) (f : Fault) (ts : List Token) (fs fs' : List Fault) → fs' ≡ take most_faults (fs ++ f ∷ []) → Keeps (over m (anew s)) t (Err f ∷ []) ts ts fs fs' (over m (anew s))
 keeps_unread m s t f ts fs fs' e =
     record { tokens = []; faults = f ∷ []; fed = record { left = anew s; feeding = unread none; state = refl; parser = took_none m }; kept = sym (append-nil ts); noted = e }
 
 -- one lexeme
 module _ (m n : Meaning) (s s' : State) (t : ℕ) (l : Lexeme) (free : ℕ) (enough : free ≡ places) (q q' : List Token) (empty : q ≡ []) where
-  pub one_within : (a : Answer) → Writes m s (feed t l free) a q q' n s' → Within m s n s'
+  pub one_within : (a : Answer) → Writes (over m s) (feed t l free) a q q' (over n s') → Within (over m s) (over n s')
   one_within a x = let c = x.calls in record { parser = record { language = c.parser.language; reach = c.parser.reach }; sheet = ap (λ (z : State). z.sheet) c.state ∙ fed_sheet c.does }
 
-  one_fed : (a : Answer) (us : List Token) → Calls m s (feed t l free) a us n s' → Fed m s t (Ok l ∷ []) (us ++ []) (fault_of a ++ []) n s'
+  one_fed : (a : Answer) (us : List Token) → Calls (over m s) (feed t l free) a us (over n s') → Fed (over m s) t (Ok l ∷ []) (us ++ []) (fault_of a ++ []) (over n s')
   one_fed a us c =
       record {
         left = c.left;
@@ -100,7 +100,7 @@ module _ (m n : Meaning) (s s' : State) (t : ℕ) (l : Lexeme) (free : ℕ) (eno
         parser = c.parser;
       }
 
-  pub one_accepted : (k : ℕ) (ts ts' : List Token) (fs : List Fault) → Writes m s (feed t l free) (count k) q q' n s' → ts' ≡ ts ++ q' → length fs ≤ most_faults → Keeps m s t (Ok l ∷ []) ts ts' fs fs n s'
+  pub one_accepted : (k : ℕ) (ts ts' : List Token) (fs : List Fault) → Writes (over m s) (feed t l free) (count k) q q' (over n s') → ts' ≡ ts ++ q' → length fs ≤ most_faults → Keeps (over m s) t (Ok l ∷ []) ts ts' fs fs (over n s')
   one_accepted k ts ts' fs x e few =
       record {
         tokens = x.tokens ++ [];
@@ -110,7 +110,7 @@ module _ (m n : Meaning) (s s' : State) (t : ℕ) (l : Lexeme) (free : ℕ) (eno
         noted = noted_none most_faults fs few;
       }
 
-  pub one_refused : (f : Fault) (ts : List Token) (fs fs' : List Fault) → Writes m s (feed t l free) (refused f) q q' n s' → fs' ≡ take most_faults (fs ++ f ∷ []) → Keeps m s t (Ok l ∷ []) ts ts fs fs' n s'
+  pub one_refused : (f : Fault) (ts : List Token) (fs fs' : List Fault) → Writes (over m s) (feed t l free) (refused f) q q' (over n s') → fs' ≡ take most_faults (fs ++ f ∷ []) → Keeps (over m s) t (Ok l ∷ []) ts ts fs fs' (over n s')
   one_refused f ts fs fs' x e =
       record {
         tokens = x.tokens ++ [];
@@ -121,32 +121,32 @@ module _ (m n : Meaning) (s s' : State) (t : ℕ) (l : Lexeme) (free : ℕ) (eno
       }
 
   -- which leaves the queue as it was
-  pub refused_empty : (f : Fault) → Writes m s (feed t l free) (refused f) q q' n s' → q' ≡ []
+  pub refused_empty : (f : Fault) → Writes (over m s) (feed t l free) (refused f) q q' (over n s') → q' ≡ []
   refused_empty f x = x.list ∙ ap (λ l. l ++ x.tokens) empty ∙ fed_nothing x.calls.does
 
 -- lexemes that wait are fed one by one: some were, and the others still wait
 pub record Sofar (m : Meaning) (s : State) (t : ℕ) (all : List Lexeme) (ts ts' : List Token) (fs fs' : List Fault) (n : Meaning) (s' : State) (rest : List Lexeme) : Type 0 where
   pub seen : List Lexeme
   pub whole : all ≡ seen ++ rest
-  pub within : Within m s n s'
-  pub keeps : Keeps m s t (map Ok seen) ts ts' fs fs' n s'
+  pub within : Within (over m s) (over n s')
+  pub keeps : Keeps (over m s) t (map Ok seen) ts ts' fs fs' (over n s')
 
 pub sofar_none : (m : Meaning) (s : State) (t : ℕ) (all : List Lexeme) (ts : List Token) (fs : List Fault) → length fs ≤ most_faults → Sofar m (anew s) t all ts ts fs fs m (anew s) all
 sofar_none m s t all ts fs few = record { seen = []; whole = refl; within = within_none m (anew s); keeps = keeps_none m s t ts fs few }
 
-pub sofar_more : {m n o : Meaning} {s s' s'' : State} {t : ℕ} {all rest rest' : List Lexeme} {ts ts' ts'' : List Token} {fs fs' fs'' : List Fault} (l : Lexeme) → Sofar m s t all ts ts' fs fs' n s' rest → rest ≡ l ∷ rest' → Within n s' o s'' → Keeps n s' t (Ok l ∷ []) ts' ts'' fs' fs'' o s''
+pub sofar_more : {m n o : Meaning} {s s' s'' : State} {t : ℕ} {all rest rest' : List Lexeme} {ts ts' ts'' : List Token} {fs fs' fs'' : List Fault} (l : Lexeme) → Sofar m s t all ts ts' fs fs' n s' rest → rest ≡ l ∷ rest' → Within (over n s') (over o s'') → Keeps (over n s') t (Ok l ∷ []) ts' ts'' fs' fs'' (over o s'')
     → Sofar m s t all ts ts'' fs fs'' o s'' rest'
 sofar_more {m} {n} {o} {s} {s'} {s''} {t} {all} {rest} {rest'} {ts} {ts'} {ts''} {fs} {fs'} {fs''} l x e w k =
     record {
       seen = x.seen ++ l ∷ [];
       whole = x.whole ∙ ap (λ y. x.seen ++ y) e ∙ sym (append_assoc x.seen (l ∷ []) rest');
       within = within_on x.within w;
-      keeps = subst (λ (ys : List (Result Lexeme Fault)). Keeps m s t ys ts ts'' fs fs'' o s'') (sym (map-append Ok x.seen (l ∷ []))) (keeps_on x.keeps k);
+      keeps = subst (λ (ys : List (Result Lexeme Fault)). Keeps (over m s) t ys ts ts'' fs fs'' (over o s'')) (sym (map-append Ok x.seen (l ∷ []))) (keeps_on x.keeps k);
     }
 
-pub sofar_all : {m n : Meaning} {s s' : State} {t : ℕ} {all rest : List Lexeme} {ts ts' : List Token} {fs fs' : List Fault} → Sofar m s t all ts ts' fs fs' n s' rest → rest ≡ [] → Keeps m s t (map Ok all) ts ts' fs fs' n s'
+pub sofar_all : {m n : Meaning} {s s' : State} {t : ℕ} {all rest : List Lexeme} {ts ts' : List Token} {fs fs' : List Fault} → Sofar m s t all ts ts' fs fs' n s' rest → rest ≡ [] → Keeps (over m s) t (map Ok all) ts ts' fs fs' (over n s')
 sofar_all {m} {n} {s} {s'} {t} {all} {rest} {ts} {ts'} {fs} {fs'} x e =
-    subst (λ (ls : List Lexeme). Keeps m s t (map Ok ls) ts ts' fs fs' n s') (sym (x.whole ∙ ap (λ y. x.seen ++ y) e ∙ append-nil x.seen)) x.keeps
+    subst (λ (ls : List Lexeme). Keeps (over m s) t (map Ok ls) ts ts' fs fs' (over n s')) (sym (x.whole ∙ ap (λ y. x.seen ++ y) e ∙ append-nil x.seen)) x.keeps
 
-pub keeps_few : {m n : Meaning} {s s' : State} {t : ℕ} {xs : List (Result Lexeme Fault)} {ts ts' : List Token} {fs fs' : List Fault} → Keeps m s t xs ts ts' fs fs' n s' → length fs' ≤ most_faults
+pub keeps_few : {m n : Meaning} {s s' : State} {t : ℕ} {xs : List (Result Lexeme Fault)} {ts ts' : List Token} {fs fs' : List Fault} → Keeps (over m s) t xs ts ts' fs fs' (over n s') → length fs' ≤ most_faults
 keeps_few {fs = fs} {fs' = fs'} x = few_noted most_faults (fs ++ x.faults) fs' x.noted

@@ -7,7 +7,7 @@ use Rattle.sheet.specs.declared.fault.Fault.{Fault}
 use Rattle.sheet.specs.declared.lexeme.Lexeme.{Lexeme}
 use Rattle.sheet.specs.declared.lexeme.Place.{Place}
 use Rattle.sheet.specs.declared.lexeme.Token.{Token}
-use Rattle.layout.specs.Calling.{Calls, anew}
+use Rattle.layout.specs.Calling.{anew, Calls, over}
 use Rattle.layout.specs.Law.{Sheet, since_begin}
 use Rattle.layout.specs.Layout.{Turns, kinds}
 use Rattle.layout.specs.Service.{Does, Event, Run, State, begin_open, begin_spent, begins, feed_fails, feeds, more, none as no_call}
@@ -27,7 +27,7 @@ module _ (m n : Meaning) (s s₁ : State) where
   refused_whole f xs p (begin_spent e n) = not_begun (begin_spent e n)
 
   -- a sheet that could not be begun
-  pub comes_not_begun : (f : Fault) (us : List Token) (text : List ℕ) (r : Result (List Token) (List Fault)) → Calls m s begin (refused f) us n s₁ → r ≡ Err (f ∷ []) → Comes m s text r s₁
+  pub comes_not_begun : (f : Fault) (us : List Token) (text : List ℕ) (r : Result (List Token) (List Fault)) → Calls (over m s) begin (refused f) us (over n s₁) → r ≡ Err (f ∷ []) → Comes (over m s) text r s₁
   comes_not_begun f us text r c is =
       record {
         left = c.left;
@@ -39,26 +39,26 @@ module _ (m n : Meaning) (s s₁ : State) where
   refused_sheet f (begin_open e) = refl
   refused_sheet f (begin_spent e n) = refl
 
-  pub not_begun_sheet : (f : Fault) (us : List Token) → Calls m s begin (refused f) us n s₁ → s₁.sheet ≡ s.sheet
+  pub not_begun_sheet : (f : Fault) (us : List Token) → Calls (over m s) begin (refused f) us (over n s₁) → s₁.sheet ≡ s.sheet
   not_begun_sheet f us c = ap (λ (z : State). z.sheet) c.state ∙ refused_sheet f c.does
 
-  pub not_begun_parser : (f : Fault) (us : List Token) → Calls m s begin (refused f) us n s₁ → SameParser m n
+  pub not_begun_parser : (f : Fault) (us : List Token) → Calls (over m s) begin (refused f) us (over n s₁) → SameParser m n
   not_begun_parser f us c = record { language = c.parser.language; reach = c.parser.reach }
 
   -- one that was begun
-  pub begun_parser : (k : ℕ) (us : List Token) → Calls m s begin (ticket k) us n s₁ → SameParser m n
+  pub begun_parser : (k : ℕ) (us : List Token) → Calls (over m s) begin (ticket k) us (over n s₁) → SameParser m n
   begun_parser k us c = record { language = c.parser.language; reach = c.parser.reach }
 
   opens : {l : State} {us : List Token} (k : ℕ) → Does m.remainder m.left s begin (ticket k) us l → l.sheet ≡ Some k
   opens k (begins e n) = refl
 
-  pub begun_open : (k : ℕ) (us : List Token) → Calls m s begin (ticket k) us n s₁ → s₁.sheet ≡ Some k
+  pub begun_open : (k : ℕ) (us : List Token) → Calls (over m s) begin (ticket k) us (over n s₁) → s₁.sheet ≡ Some k
   begun_open k us c = ap (λ (z : State). z.sheet) c.state ∙ opens k c.does
 
   was_shut : {l : State} {us : List Token} (k : ℕ) → Does m.remainder m.left s begin (ticket k) us l → s.sheet ≡ None
   was_shut k (begins e n) = e
 
-  pub begun_shut : (k : ℕ) (us : List Token) → Calls m s begin (ticket k) us n s₁ → s.sheet ≡ None
+  pub begun_shut : (k : ℕ) (us : List Token) → Calls (over m s) begin (ticket k) us (over n s₁) → s.sheet ≡ None
   begun_shut k us c = was_shut k c.does
 
   begun_none : {l : State} {us : List Token} (k : ℕ) → Does m.remainder m.left s begin (ticket k) us l → l.written ≡ []
@@ -67,7 +67,7 @@ module _ (m n : Meaning) (s s₁ : State) where
   begins_there : {l : State} {us : List Token} (k : ℕ) → Does m.remainder m.left s begin (ticket k) us l → Does m.language m.reach s begin (ticket k) [] (anew l)
   begins_there k (begins e n) = begins e n
 
-  pub comes_begun : (k : ℕ) (us : List Token) (text : List ℕ) (r : Result (List Token) (List Fault)) (s₂ : State) → Calls m s begin (ticket k) us n s₁ → Ran n s₁ k text r s₂ → Comes m s text r s₂
+  pub comes_begun : (k : ℕ) (us : List Token) (text : List ℕ) (r : Result (List Token) (List Fault)) (s₂ : State) → Calls (over m s) begin (ticket k) us (over n s₁) → Ran (over n s₁) k text r s₂ → Comes (over m s) text r s₂
   comes_begun k us text r s₂ c x =
       let nothing = begun_none k c.does in
       let same : (w : List ℕ) → (n.remainder w → m.language w) × (m.language w → n.remainder w) =

@@ -1,9 +1,8 @@
 // Feeding what a text tells, lexeme by lexeme, with the tokens and the faults kept.
 ghost use Rattle.std.specs.Prelude.{◌≡◌, ◌≤◌, [], ◌∷◌, ◌++◌, map, length, take as first, IfOk, Ok as told_lexeme, vec_len, OnOk};
-ghost use Rattle.parser.specs.Meaning.{meaning};
 ghost use Rattle.queue.specs.Waiting.{capacity, waiting};
 ghost use Rattle.reader.specs.Reading.{offset_of, text_of};
-ghost use Rattle.layout.specs.Calling.{standing};
+ghost use Rattle.layout.specs.Calling.{stand};
 ghost use Rattle.whole.specs.Feeding.{Keeps, Within, stop_faults};
 ghost use Rattle.whole.specs.Whole.{end_of, told};
 
@@ -75,8 +74,8 @@ fn feed_one<P: Stepping>(
     requires empty { waiting queue.old ≡ [] }
     requires places { capacity queue.old ≡ 128 }
     requires few { vec_len kept.old.faults ≤ 256 }
-    ensures within { Within (meaning P.Stepping resolver.old.parser) (standing resolver.old) (meaning P.Stepping resolver.new.parser) (standing resolver.new) }
-    ensures keeps { OnOk result (Keeps (meaning P.Stepping resolver.old.parser) (standing resolver.old) ticket.now.number (told_lexeme lexeme ∷ []) kept.old.tokens.items kept.new.tokens.items kept.old.faults.items kept.new.faults.items (meaning P.Stepping resolver.new.parser) (standing resolver.new)) }
+    ensures within { Within (stand P.Stepping resolver.old) (stand P.Stepping resolver.new) }
+    ensures keeps { OnOk result (Keeps (stand P.Stepping resolver.old) ticket.now.number (told_lexeme lexeme ∷ []) kept.old.tokens.items kept.new.tokens.items kept.old.faults.items kept.new.faults.items (stand P.Stepping resolver.new)) }
     ensures emptied { OnOk result (waiting queue.new ≡ []) }
     ensures size { capacity queue.new ≡ capacity queue.old }
 {
@@ -97,8 +96,8 @@ fn feed_waiting<P: Stepping>(
     requires empty { waiting queue.old ≡ [] }
     requires places { capacity queue.old ≡ 128 }
     requires few { vec_len kept.old.faults ≤ 256 }
-    ensures within { Within (meaning P.Stepping resolver.old.parser) (standing resolver.old) (meaning P.Stepping resolver.new.parser) (standing resolver.new) }
-    ensures keeps { OnOk result (Keeps (meaning P.Stepping resolver.old.parser) (standing resolver.old) ticket.now.number (map told_lexeme (waiting lexemes.old)) kept.old.tokens.items kept.new.tokens.items kept.old.faults.items kept.new.faults.items (meaning P.Stepping resolver.new.parser) (standing resolver.new)) }
+    ensures within { Within (stand P.Stepping resolver.old) (stand P.Stepping resolver.new) }
+    ensures keeps { OnOk result (Keeps (stand P.Stepping resolver.old) ticket.now.number (map told_lexeme (waiting lexemes.old)) kept.old.tokens.items kept.new.tokens.items kept.old.faults.items kept.new.faults.items (stand P.Stepping resolver.new)) }
     ensures taken { OnOk result (waiting lexemes.new ≡ []) }
     ensures emptied { OnOk result (waiting queue.new ≡ []) }
     ensures read_size { capacity lexemes.new ≡ capacity lexemes.old }
@@ -119,8 +118,8 @@ pub fn feed_all<P: Stepping>(
 ) -> Result<Place, AllocError>
     requires short { length text.now ≤ 65535 }
     requires few { vec_len kept.old.faults ≤ 256 }
-    ensures within { Within (meaning P.Stepping resolver.old.parser) (standing resolver.old) (meaning P.Stepping resolver.new.parser) (standing resolver.new) }
-    ensures keeps { OnOk result (Keeps (meaning P.Stepping resolver.old.parser) (standing resolver.old) ticket.now.number (told text.now) kept.old.tokens.items kept.new.tokens.items kept.old.faults.items kept.new.faults.items (meaning P.Stepping resolver.new.parser) (standing resolver.new)) }
+    ensures within { Within (stand P.Stepping resolver.old) (stand P.Stepping resolver.new) }
+    ensures keeps { OnOk result (Keeps (stand P.Stepping resolver.old) ticket.now.number (told text.now) kept.old.tokens.items kept.new.tokens.items kept.old.faults.items kept.new.faults.items (stand P.Stepping resolver.new)) }
     ensures place { IfOk result (λ p. p ≡ end_of text.now) }
 {
     let mut reader = Reader::open(text);

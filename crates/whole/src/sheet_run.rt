@@ -1,7 +1,7 @@
 // A whole sheet on a resolver: begun, fed, and finished or given up.
 ghost use Rattle.std.specs.Prelude.{◌≡◌, ◌≤◌, [], ◌∷◌, length, IfOk, Some as open_sheet, Err as refused_sheet, vec_len, MatchResult};
 ghost use Rattle.parser.specs.Meaning.{meaning};
-ghost use Rattle.layout.specs.Calling.{Calls, standing};
+ghost use Rattle.layout.specs.Calling.{Calls, stand, standing};
 ghost use Rattle.layout.specs.declared.call.Answer.TheVariants.{Closed as closed_answer};
 ghost use Rattle.layout.specs.declared.call.Call.TheVariants.{GiveUp as give_up_call};
 ghost use Rattle.whole.specs.Feeding.{Comes, Ended, Fails, Ran, SameParser, Shut};
@@ -19,8 +19,8 @@ use std::alloc::{AllocError, Global};
 // Gives up the open sheet.
 fn give_up<P: Stepping>(ticket: Ticket, resolver: &mut Resolver<P>)
     requires { (standing resolver.old).sheet ≡ open_sheet ticket.number }
-    ensures calls { Calls (meaning P.Stepping resolver.old.parser) (standing resolver.old) (give_up_call ticket.number) closed_answer [] (meaning P.Stepping resolver.new.parser) (standing resolver.new) }
-    ensures shut { Shut (meaning P.Stepping resolver.old.parser) (meaning P.Stepping resolver.new.parser) (standing resolver.new) }
+    ensures calls { Calls (stand P.Stepping resolver.old) (give_up_call ticket.number) closed_answer [] (stand P.Stepping resolver.new) }
+    ensures shut { Shut (stand P.Stepping resolver.old) (stand P.Stepping resolver.new) }
 {
     ticket.give_up(resolver).unwrap();
 }
@@ -34,8 +34,8 @@ fn finish<P: Stepping>(
 ) -> Result<Outcome, AllocError>
     requires sheet { (standing resolver.old).sheet ≡ open_sheet ticket.number }
     requires clean { kept.faults.items ≡ [] }
-    ensures ends { IfOk result (λ o. Ended (meaning P.Stepping resolver.old.parser) (standing resolver.old) ticket.number «end» kept.tokens.items [] (outcome o) (standing resolver.new)) }
-    ensures shut { Shut (meaning P.Stepping resolver.old.parser) (meaning P.Stepping resolver.new.parser) (standing resolver.new) }
+    ensures ends { IfOk result (λ o. Ended (stand P.Stepping resolver.old) ticket.number «end» kept.tokens.items [] (outcome o) (standing resolver.new)) }
+    ensures shut { Shut (stand P.Stepping resolver.old) (stand P.Stepping resolver.new) }
 {
     let mut kept = kept;
     let mut places = [Token::default(); PLACES];
@@ -62,8 +62,8 @@ fn conclude<P: Stepping>(
 ) -> Result<Outcome, AllocError>
     requires sheet { (standing resolver.old).sheet ≡ open_sheet ticket.number }
     requires few { vec_len kept.faults ≤ 256 }
-    ensures ends { IfOk result (λ o. Ended (meaning P.Stepping resolver.old.parser) (standing resolver.old) ticket.number «end» kept.tokens.items kept.faults.items (outcome o) (standing resolver.new)) }
-    ensures shut { Shut (meaning P.Stepping resolver.old.parser) (meaning P.Stepping resolver.new.parser) (standing resolver.new) }
+    ensures ends { IfOk result (λ o. Ended (stand P.Stepping resolver.old) ticket.number «end» kept.tokens.items kept.faults.items (outcome o) (standing resolver.new)) }
+    ensures shut { Shut (stand P.Stepping resolver.old) (stand P.Stepping resolver.new) }
 {
     if kept.faults.is_empty() {
         return finish(ticket, resolver, end, kept);
@@ -81,8 +81,8 @@ fn run<P: Stepping>(
 ) -> Result<Outcome, AllocError>
     requires short { length text.now ≤ 65535 }
     requires sheet { (standing resolver.old).sheet ≡ open_sheet ticket.number }
-    ensures ran { IfOk result (λ o. Ran (meaning P.Stepping resolver.old.parser) (standing resolver.old) ticket.number text.now (outcome o) (standing resolver.new)) }
-    ensures shut { Shut (meaning P.Stepping resolver.old.parser) (meaning P.Stepping resolver.new.parser) (standing resolver.new) }
+    ensures ran { IfOk result (λ o. Ran (stand P.Stepping resolver.old) ticket.number text.now (outcome o) (standing resolver.new)) }
+    ensures shut { Shut (stand P.Stepping resolver.old) (stand P.Stepping resolver.new) }
 {
     let mut kept = Kept {
         tokens: Vec::new(heap),
@@ -113,7 +113,7 @@ fn sheet<P: Stepping>(
     resolver: &mut Resolver<P>,
 ) -> Result<Outcome, AllocError>
     requires { length text.now ≤ 65535 }
-    ensures comes { IfOk result (λ o. Comes (meaning P.Stepping resolver.old.parser) (standing resolver.old) text.now (outcome o) (standing resolver.new)) }
+    ensures comes { IfOk result (λ o. Comes (stand P.Stepping resolver.old) text.now (outcome o) (standing resolver.new)) }
     ensures law { IfOk result (λ o. Lawful (P.Stepping.language resolver.old.parser) text.now (outcome o)) }
     ensures parser { SameParser (meaning P.Stepping resolver.old.parser) (meaning P.Stepping resolver.new.parser) }
     ensures sheet { (standing resolver.new).sheet ≡ (standing resolver.old).sheet }
@@ -132,7 +132,7 @@ pub fn resolve<P: Stepping>(
     text: &[u8],
     resolver: &mut Resolver<P>,
 ) -> Result<Outcome, Failure>
-    ensures comes { MatchResult result (λ o. Comes (meaning P.Stepping resolver.old.parser) (standing resolver.old) text.now (outcome o) (standing resolver.new)) (λ e. Fails text.now resolver.old e resolver.new) }
+    ensures comes { MatchResult result (λ o. Comes (stand P.Stepping resolver.old) text.now (outcome o) (standing resolver.new)) (λ e. Fails text.now resolver.old e resolver.new) }
     ensures law { IfOk result (λ o. Lawful (P.Stepping.language resolver.old.parser) text.now (outcome o)) }
     ensures parser { SameParser (meaning P.Stepping resolver.old.parser) (meaning P.Stepping resolver.new.parser) }
     ensures sheet { (standing resolver.new).sheet ≡ (standing resolver.old).sheet }

@@ -2,7 +2,7 @@
 ghost use Rattle.std.specs.Prelude.{◌≡◌, ◌+◌, ◌^◌, ◌<◌, [], IfErr};
 ghost use Rattle.parser.specs.Meaning.{meaning, started};
 ghost use Rattle.queue.specs.Waiting.{room, SamePlaces, waiting};
-ghost use Rattle.layout.specs.Calling.{Calls, Writes, begin_answer, feed_answer, finish_answer, give_up_answer, next_of, standing};
+ghost use Rattle.layout.specs.Calling.{begin_answer, Calls, feed_answer, finish_answer, give_up_answer, next_of, stand, standing, Writes};
 ghost use Rattle.layout.specs.Moves.{Took};
 ghost use Rattle.layout.specs.Service.{fault, new};
 ghost use Rattle.layout.specs.declared.call.Call.TheVariants.{Begin, Feed, Finish, GiveUp};
@@ -62,7 +62,7 @@ impl<P: Stepping> Resolver<P> {
 
     // Opens a sheet and hands out its ticket.
     pub fn begin(&mut self) -> Result<Ticket, Fault>
-        ensures { Calls (meaning P.Stepping self.old.parser) (standing self.old) Begin (begin_answer result) [] (meaning P.Stepping self.new.parser) (standing self.new) }
+        ensures { Calls (stand P.Stepping self.old) Begin (begin_answer result) [] (stand P.Stepping self.new) }
     {
         if self.sheet.is_some() {
             return Err(self.fault(Reason::SheetOpen, 0, 0));
@@ -87,7 +87,7 @@ impl Ticket {
         lexeme: Lexeme,
         queue: &mut Queue<'_, Token>,
     ) -> Result<usize, Fault>
-        ensures writes { Writes (meaning P.Stepping resolver.old.parser) (standing resolver.old) (Feed self.now.number lexeme (room queue.old)) (feed_answer result) (waiting queue.old) (waiting queue.new) (meaning P.Stepping resolver.new.parser) (standing resolver.new) }
+        ensures writes { Writes (stand P.Stepping resolver.old) (Feed self.now.number lexeme (room queue.old)) (feed_answer result) (waiting queue.old) (waiting queue.new) (stand P.Stepping resolver.new) }
         ensures places { SamePlaces queue.old queue.new }
     {
         match resolver.feed_directly(self.number, &lexeme, queue.free()) {
@@ -109,7 +109,7 @@ impl Ticket {
         lexeme: Lexeme,
         queue: &mut Queue<'_, Token>,
     ) -> Result<usize, Fault>
-        ensures writes { Writes (meaning P.Stepping resolver.old.parser) (standing resolver.old) (Feed self.now.number lexeme (room queue.old)) (feed_answer result) (waiting queue.old) (waiting queue.new) (meaning P.Stepping resolver.new.parser) (standing resolver.new) }
+        ensures writes { Writes (stand P.Stepping resolver.old) (Feed self.now.number lexeme (room queue.old)) (feed_answer result) (waiting queue.old) (waiting queue.new) (stand P.Stepping resolver.new) }
         ensures places { SamePlaces queue.old queue.new }
     {
         match resolver.feed_lexeme(self.number, lexeme, queue.free()) {
@@ -130,7 +130,7 @@ impl Ticket {
         end: Place,
         queue: &mut Queue<'_, Token>,
     ) -> Result<usize, Refusal>
-        ensures writes { Writes (meaning P.Stepping resolver.old.parser) (standing resolver.old) (Finish self.number «end» (room queue.old)) (finish_answer result) (waiting queue.old) (waiting queue.new) (meaning P.Stepping resolver.new.parser) (standing resolver.new) }
+        ensures writes { Writes (stand P.Stepping resolver.old) (Finish self.number «end» (room queue.old)) (finish_answer result) (waiting queue.old) (waiting queue.new) (stand P.Stepping resolver.new) }
         ensures ticket { IfErr result (λ e. e.ticket.number ≡ self.number) }
         ensures places { SamePlaces queue.old queue.new }
     {
@@ -150,7 +150,7 @@ impl Ticket {
 
     // Closes the sheet unfinished; what was written of it stays where it is.
     pub fn give_up<P: Stepping>(self, resolver: &mut Resolver<P>) -> Result<(), Refusal>
-        ensures calls { Calls (meaning P.Stepping resolver.old.parser) (standing resolver.old) (GiveUp self.number) (give_up_answer result) [] (meaning P.Stepping resolver.new.parser) (standing resolver.new) }
+        ensures calls { Calls (stand P.Stepping resolver.old) (GiveUp self.number) (give_up_answer result) [] (stand P.Stepping resolver.new) }
         ensures ticket { IfErr result (λ e. e.ticket.number ≡ self.number) }
     {
         if !resolver.is_open(self.number) {

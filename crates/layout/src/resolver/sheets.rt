@@ -1,7 +1,7 @@
 // The open sheet: what is accepted of it, and how it is left where something is not.
 ghost use Rattle.std.specs.Prelude.{◌≡◌, ◌≤◌, true, [], length, is_some, Some, Decides, MatchOption};
 ghost use Rattle.parser.specs.Meaning.{meaning};
-ghost use Rattle.layout.specs.Calling.{Fed, Finished, shut, standing};
+ghost use Rattle.layout.specs.Calling.{Fed, Finished, shut, stand, standing};
 ghost use Rattle.layout.specs.Contexts.{rises, stack};
 ghost use Rattle.layout.specs.Drafts.{alone, contexts_of};
 ghost use Rattle.layout.specs.Marks.{mark_of};
@@ -83,7 +83,7 @@ impl<P: Stepping> Resolver<P> {
         lexeme: &Lexeme,
         free: usize,
     ) -> Option<Result<(), Reason>>
-        ensures { MatchOption result (Took [] (meaning P.Stepping self.old.parser) (meaning P.Stepping self.new.parser) × (standing self.new ≡ standing self.old)) (λ x. Fed (meaning P.Stepping self.old.parser) (standing self.old) number lexeme.now free (meaning P.Stepping self.new.parser) (standing self.new) (alone self.old.depth x)) }
+        ensures { MatchOption result (Took [] (meaning P.Stepping self.old.parser) (meaning P.Stepping self.new.parser) × (standing self.new ≡ standing self.old)) (λ x. Fed (stand P.Stepping self.old) number lexeme.now free (stand P.Stepping self.new) (alone self.old.depth x)) }
     {
         if !self.is_direct(number, lexeme, free) {
             return None;
@@ -107,7 +107,7 @@ impl<P: Stepping> Resolver<P> {
         lexeme: Lexeme,
         free: usize,
     ) -> Result<Draft, Reason>
-        ensures { Fed (meaning P.Stepping self.old.parser) (standing self.old) number lexeme free (meaning P.Stepping self.new.parser) (standing self.new) result }
+        ensures { Fed (stand P.Stepping self.old) number lexeme free (stand P.Stepping self.new) result }
     {
         if !self.is_open(number) {
             return Err(Reason::WrongTicket);
@@ -129,7 +129,7 @@ impl<P: Stepping> Resolver<P> {
         end: Place,
         free: usize,
     ) -> Result<Draft, Reason>
-        ensures { Finished (meaning P.Stepping self.old.parser) (standing self.old) number end free (meaning P.Stepping self.new.parser) (standing self.new) result }
+        ensures { Finished (stand P.Stepping self.old) number end free (stand P.Stepping self.new) result }
     {
         if !self.is_open(number) {
             return Err(Reason::WrongTicket);

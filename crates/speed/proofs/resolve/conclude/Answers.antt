@@ -1,7 +1,7 @@
 use Rattle.std.proofs.Common.{◌≡◌, ℕ, ◌+◌, ◌%◌, ◌^◌, [], length, Some, sym, ap, ◌∙◌, subst, arith}
 use Rattle.parser.specs.Meaning.{Meaning, meaning}
 use Rattle.queue.specs.Waiting.{room, waiting}
-use Rattle.layout.specs.Calling.{Calls, standing}
+use Rattle.layout.specs.Calling.{Calls, over, standing}
 use Rattle.layout.specs.declared.call.Answer.TheVariants.{Closed}
 use Rattle.layout.specs.declared.call.Call.TheVariants.{GiveUp}
 use Rattle.whole.specs.Whole.{places}
@@ -39,6 +39,6 @@ returns-in-Err g c =
     let t = c.args.ticket.number in
     let enough : room q ≡ places = omega (arith, c.requires.places, ap length c.requires.empty) in
     let number : c.in-Err.field-0.ticket.number ≡ t = c.in-Err.ensures.ticket in
-    let gives = subst (λ (n : ℕ). Calls (of g z.parser) (standing z) (GiveUp n) Closed [] (of g y.parser) (standing y)) number c.give_up-in-Err.ensures in
+    let gives = subst (λ (n : ℕ). Calls (over (of g z.parser) (standing z)) (GiveUp n) Closed [] (over (of g y.parser) (standing y))) number c.give_up-in-Err.ensures in
     closes_unfinished (of g r.parser) (of g z.parser) (standing r) (standing z) t c.args.end (room q) enough (waiting q) (waiting c.finish.new.queue) c.requires.empty c.args.tally c.if-tally.false (of g y.parser) (standing y) c.in-Err.field-0.fault [] _ w (refused_open w ∙ c.requires.sheet) gives
     (ap (λ (n : ℕ). (c.args.tally.sum + n) % 2 ^ 64) c.of_fault.ensures)

@@ -7,7 +7,7 @@ use Rattle.reader.specs.Places.{column_at, line_at}
 use Rattle.reader.specs.Reading.{answer, offset_of, reads, text_of}
 use Rattle.reader.specs.declared.reader.Reader.{Reader}
 use Rattle.reader.specs.declared.stop.Stop.{Stop}
-use Rattle.layout.specs.Calling.{standing}
+use Rattle.layout.specs.Calling.{over, standing}
 use Rattle.whole.proofs.Feeds.{within_on}
 use Rattle.whole.proofs.Reading.{read_from}
 use Rattle.speed.specs.Resolved.{readable}
@@ -47,7 +47,7 @@ returns-in-Ok g c =
     let e = c.read-answer.ensures in
     let q' = c.read-answer.new.queue in
     let a = answer_is r q q' text i.4 i.0 e.list (Ok c.in-Ok.field-0) (sym c.in-Ok.is ∙ e.answer) in
-    let k = subst (λ (l : List Lexeme). Adds (of g c.loop-reader.resolver.parser) (standing c.loop-reader.resolver) c.args.ticket.now.number (map Ok l) c.loop-reader.tally c.feed_waiting.new.tally (of g c.feed_waiting.new.resolver.parser) (standing c.feed_waiting.new.resolver)) (put_is r q q' text i.4 i.0 e.list) f.adds in
+    let k = subst (λ (l : List Lexeme). Adds (over (of g c.loop-reader.resolver.parser) (standing c.loop-reader.resolver)) c.args.ticket.now.number (map Ok l) c.loop-reader.tally c.feed_waiting.new.tally (over (of g c.feed_waiting.new.resolver.parser) (standing c.feed_waiting.new.resolver))) (put_is r q q' text i.4 i.0 e.list) f.adds in
     let end : offset_of c.read-answer.new.self ≡ length text = next_is r q q' text i.4 i.0 e.list (offset_of c.read-answer.new.self) e.next ∙ end_place i.5 (room q) f.within k c.in-Ok.field-0 a in
     let same : text_of c.read-answer.new.self ≡ text = e.text ∙ i.4 in
     record {
@@ -69,7 +69,7 @@ loop-reader-preserved g c =
     let q' = c.read-answer.new.queue in
     let z = c.feed_waiting.new.resolver in
     let a = answer_is r q q' text i.4 i.0 e.list (Err c.in-Err.stop) (sym c.in-Err.is ∙ e.answer) in
-    let k = subst (λ (l : List Lexeme). Adds (of g c.loop-reader.resolver.parser) (standing c.loop-reader.resolver) c.args.ticket.now.number (map Ok l) c.loop-reader.tally c.feed_waiting.new.tally (of g z.parser) (standing z)) (put_is r q q' text i.4 i.0 e.list) f.adds in
+    let k = subst (λ (l : List Lexeme). Adds (over (of g c.loop-reader.resolver.parser) (standing c.loop-reader.resolver)) c.args.ticket.now.number (map Ok l) c.loop-reader.tally c.feed_waiting.new.tally (over (of g z.parser) (standing z))) (put_is r q q' text i.4 i.0 e.list) f.adds in
     let stop = adds_stop (of g z.parser) (standing z) c.args.ticket.now.number c.in-Err.stop c.feed_waiting.new.tally c.add_stop.new.tally c.add_stop.ensures in (
       f.taken,
       f.read_size ∙ e.places.size ∙ i.1,

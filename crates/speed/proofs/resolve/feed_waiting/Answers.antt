@@ -29,6 +29,6 @@ returns g c =
       adds = sofar_all i.3 e.list.0;
       taken = e.list.1;
       emptied = i.0;
-      read_size = e.size ∙ i.2;
+      read_size = e.places.size ∙ i.2;
       size = i.1 ∙ sym c.requires.places;
     }

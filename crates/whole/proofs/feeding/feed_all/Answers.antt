@@ -7,7 +7,7 @@ use Rattle.reader.specs.Places.{column_at, line_at}
 use Rattle.reader.specs.Reading.{answer, offset_of, reads, text_of}
 use Rattle.reader.specs.declared.reader.Reader.{Reader}
 use Rattle.reader.specs.declared.stop.Stop.{Stop}
-use Rattle.layout.specs.Calling.{standing}
+use Rattle.layout.specs.Calling.{over, standing}
 use Rattle.whole.specs.Feeding.{Keeps}
 use Rattle.whole.proofs.Feeds.{keeps_few, within_on}
 use Rattle.whole.proofs.Reading.{end_place, keeps_stop, read_end, read_from, read_on, readings_none}
@@ -60,9 +60,9 @@ returns-in-Ok g c =
     let w = c.in_ok-feed_waiting.ensures.within in
     let e = c.in-Ok.ensures in
     let a = answer_is r q c.read-answer.new.queue text i.5 i.0 e.list (Ok c.in-Ok.field-0) e.answer in
-    let k = (subst (λ (l : List Lexeme). Keeps (of g c.loop-reader.resolver.parser) (standing c.loop-reader.resolver) c.args.ticket.now.number (map Ok l)
+    let k = (subst (λ (l : List Lexeme). Keeps (over (of g c.loop-reader.resolver.parser) (standing c.loop-reader.resolver)) c.args.ticket.now.number (map Ok l)
     (vec_items c.loop-reader.kept.tokens) (vec_items c.feed_waiting.new.kept.tokens) (vec_items c.loop-reader.kept.faults) (vec_items c.feed_waiting.new.kept.faults)
-    (of g c.feed_waiting.new.resolver.parser) (standing c.feed_waiting.new.resolver)) (put_is r q c.read-answer.new.queue text i.5 i.0 c.read-answer.ensures.list) c.in_ok-feed_waiting.ensures.keeps) in
+    (over (of g c.feed_waiting.new.resolver.parser) (standing c.feed_waiting.new.resolver))) (put_is r q c.read-answer.new.queue text i.5 i.0 c.read-answer.ensures.list) c.in_ok-feed_waiting.ensures.keeps) in
     let end : offset_of c.read-answer.new.self ≡ length text = next_is r q c.read-answer.new.queue text i.5 i.0 e.list (offset_of c.read-answer.new.self) e.next ∙ end_place i.6 (room q) w k c.in-Ok.field-0 a in
     let same : text_of c.read-answer.new.self ≡ text = e.text ∙ i.5 in
     record {
@@ -87,9 +87,9 @@ loop-reader-preserved g c =
     let e = c.in-Err.ensures in
     let z = c.feed_waiting.new.resolver in
     let a = answer_is r q c.read-answer.new.queue text i.5 i.0 e.list (Err c.in-Err.stop) e.answer in
-    let k = (subst (λ (l : List Lexeme). Keeps (of g c.loop-reader.resolver.parser) (standing c.loop-reader.resolver) c.args.ticket.now.number (map Ok l)
+    let k = (subst (λ (l : List Lexeme). Keeps (over (of g c.loop-reader.resolver.parser) (standing c.loop-reader.resolver)) c.args.ticket.now.number (map Ok l)
     (vec_items c.loop-reader.kept.tokens) (vec_items c.feed_waiting.new.kept.tokens) (vec_items c.loop-reader.kept.faults) (vec_items c.feed_waiting.new.kept.faults)
-    (of g c.feed_waiting.new.resolver.parser) (standing c.feed_waiting.new.resolver)) (put_is r q c.read-answer.new.queue text i.5 i.0 c.read-answer.ensures.list) c.in_ok-feed_waiting.ensures.keeps) in
+    (over (of g c.feed_waiting.new.resolver.parser) (standing c.feed_waiting.new.resolver))) (put_is r q c.read-answer.new.queue text i.5 i.0 c.read-answer.ensures.list) c.in_ok-feed_waiting.ensures.keeps) in
     let stop = keeps_stop (of g z.parser) (standing z) c.args.ticket.now.number c.in-Err.stop (vec_items c.feed_waiting.new.kept.tokens) (vec_items c.feed_waiting.new.kept.faults) (vec_items c.note_stop.new.faults) c.in_ok-note_stop-in-Err.ensures in (
       f.taken,
       f.read_size ∙ e.places.size ∙ i.1,

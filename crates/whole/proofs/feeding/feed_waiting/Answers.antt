@@ -50,6 +50,6 @@ returns g c =
       keeps = sofar_all i.4 e.list.0;
       taken = e.list.1;
       emptied = i.0;
-      read_size = e.size ∙ i.3;
+      read_size = e.places.size ∙ i.3;
       size = i.1 ∙ sym c.requires.places;
     }

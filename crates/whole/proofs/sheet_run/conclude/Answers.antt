@@ -4,7 +4,7 @@ use Rattle.std.proofs.lemmas.List.{nil_from_length}
 use Rattle.std.proofs.lemmas.Result.{IfOk-weaker}
 use Rattle.parser.specs.Meaning.{Meaning, meaning}
 use Rattle.sheet.specs.declared.fault.Fault.{Fault}
-use Rattle.layout.specs.Calling.{standing}
+use Rattle.layout.specs.Calling.{over, standing}
 use Rattle.whole.specs.Feeding.{Ended}
 use Rattle.whole.specs.Whole.{outcome}
 use Rattle.whole.proofs.Endings.{ended_given_up}
@@ -31,7 +31,7 @@ returns-then-is_empty g c =
     let clean : vec_items v ≡ [] = nil_from_length (vec_items v) (omega (arith, zero, v.ok.0)) in
     record {
       ends = IfOk-weaker c.finish.result _ _
-          (λ o x. subst (λ (fs : List Fault). Ended (of g r.parser) (standing r) c.args.ticket.number c.args.end (vec_items c.args.kept.tokens) fs (outcome o) (standing z)) (sym clean) x) c.finish.ensures.ends;
+          (λ o x. subst (λ (fs : List Fault). Ended (over (of g r.parser) (standing r)) c.args.ticket.number c.args.end (vec_items c.args.kept.tokens) fs (outcome o) (standing z)) (sym clean) x) c.finish.ensures.ends;
       shut = c.finish.ensures.shut;
     }
 

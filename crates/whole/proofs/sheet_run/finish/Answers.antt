@@ -2,7 +2,7 @@ use Rattle.std.proofs.Common.{◌≡◌, ℕ, List, [], ◌∷◌, ◌++◌, len
 use Rattle.parser.specs.Meaning.{Meaning, meaning}
 use Rattle.queue.specs.Waiting.{room, waiting}
 use Rattle.sheet.specs.declared.fault.Fault.{Fault}
-use Rattle.layout.specs.Calling.{Calls, standing}
+use Rattle.layout.specs.Calling.{Calls, over, standing}
 use Rattle.layout.specs.declared.call.Answer.TheVariants.{Closed}
 use Rattle.layout.specs.declared.call.Call.TheVariants.{GiveUp}
 use Rattle.whole.specs.Feeding.{Ended}
@@ -48,10 +48,10 @@ returns-in_ok-push-in-Err g c =
     let p = c.args.end in
     let enough : room q ≡ places = omega (arith, c.new-queue.ensures.size, ap length c.new-queue.ensures.list) in
     let number : c.in-Err.field-0.ticket.number ≡ t = c.in-Err.ensures.ticket in
-    let gives = subst (λ (n : ℕ). Calls (of g z.parser) (standing z) (GiveUp n) Closed [] (of g y.parser) (standing y)) number c.give_up.ensures.calls in
+    let gives = subst (λ (n : ℕ). Calls (over (of g z.parser) (standing z)) (GiveUp n) Closed [] (over (of g y.parser) (standing y))) number c.give_up.ensures.calls in
     let faults : vec_items c.push.new.self ≡ c.in-Err.field-0.fault ∷ [] = c.in_ok-push-in-Err.ensures.items ∙ ap (λ (l : List Fault). l ++ c.in-Err.field-0.fault ∷ []) c.requires.clean in
     record {
-      ends = subst (λ (fs : List Fault). Ended (of g r.parser) (standing r) t p (vec_items c.args.kept.tokens) [] (Err fs) (standing y)) (sym faults)
+      ends = subst (λ (fs : List Fault). Ended (over (of g r.parser) (standing r)) t p (vec_items c.args.kept.tokens) [] (Err fs) (standing y)) (sym faults)
           (ended_unfinished (of g r.parser) (of g z.parser) (standing r) (standing z) t p (room q) enough (waiting q) (waiting c.finish.new.queue) c.new-queue.ensures.list (vec_items c.args.kept.tokens) (of g y.parser) (standing y) c.in-Err.field-0.fault [] w (refused_open w ∙ c.requires.sheet) gives);
       shut = then_shut (refused_same w) c.give_up.ensures.shut;
     }

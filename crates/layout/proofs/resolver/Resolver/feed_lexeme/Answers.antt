@@ -2,7 +2,7 @@ use Rattle.std.proofs.Common.{[], length, is_some, Ok, Err, sym, ap, ◌∙◌, 
 use Rattle.std.proofs.lemmas.Result.{err_from_is_err_and}
 use Rattle.std.proofs.lemmas.Bool.{false≢true}
 use Rattle.parser.specs.Meaning.{Meaning, meaning}
-use Rattle.layout.specs.Calling.{Fed, next_of, standing}
+use Rattle.layout.specs.Calling.{Fed, next_of, over, standing}
 use Rattle.layout.specs.Contexts.{rises, stack}
 use Rattle.layout.specs.Drafts.{contexts_of}
 use Rattle.layout.specs.Marks.{mark_of}
@@ -33,7 +33,7 @@ returns-in_err-draft g c =
     let r = c.args.self.now in
     let q = c.advance.new.self in
     let turned = err_from_is_err_and c.from_residual.result c.from_residual.ensures.1 in
-    subst (Fed (of g r.parser) (standing r) c.args.number c.args.lexeme c.args.free (of g q.parser) (standing q)) (sym (turned.1 ∙ ap Err turned.2))
+    subst (Fed (over (of g r.parser) (standing r)) c.args.number c.args.lexeme c.args.free (over (of g q.parser) (standing q))) (sym (turned.1 ∙ ap Err turned.2))
     (fed_refused r (of g r.parser) (of g q.parser) c.args.number c.args.free c.args.lexeme (standing q) c.in_err-draft.field-0.0 (c.is_open.ensures.0 c.if-not-is_open.false) (c.is_good.ensures.0 c.if-not-is_good.false)
     (beside_standing r q c.advance.ensures.beside)
     (subst (λ (x : Mark). Moves r.contexts (stack r.contexts r.depth) x (lexeme c.args.lexeme) c.args.free (of g r.parser) (of g q.parser) (Err c.in_err-draft.field-0.0)) c.mark_of-mark.ensures.value c.in_err-draft.ensures.told))

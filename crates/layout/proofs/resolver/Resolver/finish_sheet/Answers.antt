@@ -2,7 +2,7 @@ use Rattle.std.proofs.Common.{Ok, Err, sym, ap, ◌∙◌, subst}
 use Rattle.std.proofs.lemmas.Result.{err_from_is_err_and}
 use Rattle.std.proofs.lemmas.Bool.{false≢true}
 use Rattle.parser.specs.Meaning.{Meaning, meaning}
-use Rattle.layout.specs.Calling.{Finished, shut, standing}
+use Rattle.layout.specs.Calling.{Finished, over, shut, standing}
 use Rattle.layout.specs.Contexts.{stack}
 use Rattle.layout.specs.Marks.{end_mark}
 use Rattle.layout.specs.Moves.{Moves}
@@ -27,7 +27,7 @@ returns-in_err-draft g c =
     let r = c.args.self.now in
     let q = c.advance.new.self in
     let turned = err_from_is_err_and c.from_residual.result c.from_residual.ensures.1 in
-    subst (Finished (of g r.parser) (standing r) c.args.number c.args.end c.args.free (of g q.parser) (standing q)) (sym (turned.1 ∙ ap Err turned.2))
+    subst (Finished (over (of g r.parser) (standing r)) c.args.number c.args.end c.args.free (over (of g q.parser) (standing q))) (sym (turned.1 ∙ ap Err turned.2))
     (finished_refused r (of g r.parser) (of g q.parser) c.args.number c.args.free c.args.end (standing q) c.in_err-draft.field-0.0 (c.is_open.ensures.0 c.if-not-is_open.false)
     (beside_standing r q c.advance.ensures.beside)
     (subst (λ (x : Mark). Moves r.contexts (stack r.contexts r.depth) x (ending c.args.end) c.args.free (of g r.parser) (of g q.parser) (Err c.in_err-draft.field-0.0)) c.end_mark-mark.ensures c.in_err-draft.ensures.told))

@@ -2,7 +2,7 @@ use Rattle.std.proofs.Common.{◌≡◌, ℕ, ◌<◌, [], ◌∷◌, ◌++◌, 
 use Rattle.parser.specs.Meaning.{Meaning, meaning}
 use Rattle.queue.specs.Waiting.{room, waiting}
 use Rattle.sheet.specs.declared.fault.Reason.{Reason}
-use Rattle.layout.specs.Calling.{Fed, feed_answer, standing}
+use Rattle.layout.specs.Calling.{Fed, feed_answer, over, standing}
 use Rattle.layout.specs.Drafts.{alone, empty}
 use Rattle.layout.proofs.Answered.{fed_denied, fed_room, fed_writes, feeds_from}
 use Rattle.layout.proofs.Queues.{put_list}
@@ -18,13 +18,13 @@ of g p = means g.P.Stepping g.P.Probing p
 
 -- what came of the lexeme alone
 fed : (g : given.Over) (c : In-Some g) (x : Result (Unit {0}) Reason) → c.in-Some.fed ≡ x
-    → Fed (of g c.args.resolver.now.parser) (standing c.args.resolver.now) c.args.self.now.number c.args.lexeme (room c.args.queue.now) (of g c.feed_directly.new.self.parser) (standing c.feed_directly.new.self)
+    → Fed (over (of g c.args.resolver.now.parser) (standing c.args.resolver.now)) c.args.self.now.number c.args.lexeme (room c.args.queue.now) (over (of g c.feed_directly.new.self.parser) (standing c.feed_directly.new.self))
     (alone c.args.resolver.now.depth x)
 fed g c x is =
     let r = c.args.resolver.now in
     let z = c.feed_directly.new.self in
-    subst (λ (y : Result (Unit {0}) Reason). Fed (of g r.parser) (standing r) c.args.self.now.number c.args.lexeme (room c.args.queue.now) (of g z.parser) (standing z) (alone r.depth y)) is
-    (subst (λ (n : ℕ). Fed (of g r.parser) (standing r) c.args.self.now.number c.args.lexeme n (of g z.parser) (standing z) (alone r.depth c.in-Some.fed)) c.free.ensures c.in-Some.ensures)
+    subst (λ (y : Result (Unit {0}) Reason). Fed (over (of g r.parser) (standing r)) c.args.self.now.number c.args.lexeme (room c.args.queue.now) (over (of g z.parser) (standing z)) (alone r.depth y)) is
+    (subst (λ (n : ℕ). Fed (over (of g r.parser) (standing r)) c.args.self.now.number c.args.lexeme n (over (of g z.parser) (standing z)) (alone r.depth c.in-Some.fed)) c.free.ensures c.in-Some.ensures)
 
 pub returns-in-Ok : goal.returns-in-Ok
 returns-in-Ok g c =

@@ -1,7 +1,7 @@
 use Rattle.std.proofs.Common.{ℕ, Ok, Err, refl, subst, arith}
 use Rattle.parser.specs.Meaning.{Meaning, meaning}
 use Rattle.queue.specs.Waiting.{waiting}
-use Rattle.layout.specs.Calling.{Fed, standing}
+use Rattle.layout.specs.Calling.{Fed, over, standing}
 use Rattle.layout.proofs.Answered.{fed_denied, fed_room, fed_writes}
 use Rattle.layout.proofs.ticket.Ticket.feed_by_rules.Given as given
 use Rattle.layout.proofs.ticket.Ticket.feed_by_rules.Goals as goal
@@ -27,7 +27,7 @@ returns-in-Ok g c =
     let t = c.args.self.now.number in
     record {
       writes = fed_writes (of g r.parser) r (of g z.parser) (standing z) t _ l d c.count.result (waiting c.args.queue.now) (waiting c.write.new.queue)
-          (subst (λ (n : ℕ). Fed (of g r.parser) (standing r) t l n (of g z.parser) (standing z) (Ok d)) c.free.ensures c.in-Ok.ensures) c.write.ensures.list c.count.ensures;
+          (subst (λ (n : ℕ). Fed (over (of g r.parser) (standing r)) t l n (over (of g z.parser) (standing z)) (Ok d)) c.free.ensures c.in-Ok.ensures) c.write.ensures.list c.count.ensures;
       places = c.write.ensures.places;
     }
 
@@ -39,6 +39,6 @@ returns-in-Err g c =
     let t = c.args.self.now.number in
     record {
       writes = fed_denied (of g r.parser) r (of g z.parser) (standing z) t _ l c.in-Err.reason c.fault.result (waiting c.args.queue.now)
-          (subst (λ (n : ℕ). Fed (of g r.parser) (standing r) t l n (of g z.parser) (standing z) (Err c.in-Err.reason)) c.free.ensures c.in-Err.ensures) c.fault.ensures;
+          (subst (λ (n : ℕ). Fed (over (of g r.parser) (standing r)) t l n (over (of g z.parser) (standing z)) (Err c.in-Err.reason)) c.free.ensures c.in-Err.ensures) c.fault.ensures;
       places = same_places _;
     }

@@ -1,7 +1,7 @@
 use Rattle.std.proofs.Common.{ℕ, Ok, Err, refl, subst, arith}
 use Rattle.parser.specs.Meaning.{Meaning, meaning}
 use Rattle.queue.specs.Waiting.{waiting}
-use Rattle.layout.specs.Calling.{Finished, standing}
+use Rattle.layout.specs.Calling.{Finished, over, standing}
 use Rattle.layout.proofs.Answered.{finished_denied, finished_room, finished_writes}
 use Rattle.layout.proofs.ticket.Ticket.finish.Given as given
 use Rattle.layout.proofs.ticket.Ticket.finish.Goals as goal
@@ -28,7 +28,7 @@ returns-in-Ok g c =
     record {
       ticket = tt;
       writes = finished_writes (of g r.parser) r (of g z.parser) (standing z) t _ p d c.count.result (waiting c.args.queue.now) (waiting c.write.new.queue)
-          (subst (λ (n : ℕ). Finished (of g r.parser) (standing r) t p n (of g z.parser) (standing z) (Ok d)) c.free.ensures c.in-Ok.ensures) c.write.ensures.list c.count.ensures;
+          (subst (λ (n : ℕ). Finished (over (of g r.parser) (standing r)) t p n (over (of g z.parser) (standing z)) (Ok d)) c.free.ensures c.in-Ok.ensures) c.write.ensures.list c.count.ensures;
       places = c.write.ensures.places;
     }
 
@@ -41,6 +41,6 @@ returns-in-Err g c =
     record {
       ticket = refl;
       writes = finished_denied (of g r.parser) r (of g z.parser) (standing z) t _ p c.in-Err.reason c.fault.result (waiting c.args.queue.now)
-          (subst (λ (n : ℕ). Finished (of g r.parser) (standing r) t p n (of g z.parser) (standing z) (Err c.in-Err.reason)) c.free.ensures c.in-Err.ensures) c.fault.ensures;
+          (subst (λ (n : ℕ). Finished (over (of g r.parser) (standing r)) t p n (over (of g z.parser) (standing z)) (Err c.in-Err.reason)) c.free.ensures c.in-Err.ensures) c.fault.ensures;
       places = same_places _;
     }

@@ -1,7 +1,7 @@
 use Rattle.std.proofs.Common.{[], sym, refl, ◌∙◌, subst}
 use Rattle.std.proofs.lemmas.Bool.{false≢true}
 use Rattle.parser.specs.Meaning.{Meaning, meaning}
-use Rattle.layout.specs.Calling.{Calls, standing}
+use Rattle.layout.specs.Calling.{Calls, over, standing}
 use Rattle.layout.specs.declared.call.Answer.TheVariants.{Closed}
 use Rattle.layout.specs.declared.call.Call.TheVariants.{GiveUp}
 use Rattle.layout.proofs.Answered.{gives_up_open, gives_up_wrong}
@@ -23,7 +23,7 @@ returns g c =
     let r = c.args.resolver.now in
     let z = c.close.new.self in
     record {
-      calls = subst (λ p. Calls (of g r.parser) (standing r) (GiveUp c.args.self.number) Closed [] (of g p) (standing z)) (sym c.close.ensures.parser)
+      calls = subst (λ p. Calls (over (of g r.parser) (standing r)) (GiveUp c.args.self.number) Closed [] (over (of g p) (standing z))) (sym c.close.ensures.parser)
           (gives_up_open (of g r.parser) r (standing z) c.args.self.number (c.is_open.ensures.0 c.if-not-is_open.false) c.close.ensures.standing);
       ticket = tt;
     }

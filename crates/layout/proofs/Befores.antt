@@ -1,5 +1,5 @@
 -- What stands before a lexeme, and the mark that it asks for. Assumes nothing.
-use Rattle.std.proofs.Common.{◌≡◌, ℕ, Bool, true, false, cond, ◌||◌, eqb, sym, arith}
+use Rattle.std.proofs.Common.{◌≡◌, ℕ, Bool, true, false, cond, ◌||◌, eqb, sym, arith, None, Option, Some}
 use Rattle.std.proofs.lemmas.Bool.{cond_both, eqb-false, ne_eqb}
 use Rattle.sheet.specs.Kinds.{kind_number}
 use Rattle.sheet.specs.declared.lexeme.Kind.{Kind}
@@ -11,7 +11,7 @@ use Rattle.layout.specs.declared.rule.Before.{Before}
 use Rattle.layout.specs.declared.rule.Before.TheVariants.{Nothing, BlockKeyword, Other}
 use Rattle.layout.specs.declared.rule.Coming.TheVariants.{Lexeme as lexeme, End as ending}
 use Rattle.layout.specs.declared.rule.Mark.{Mark}
-use Rattle.layout.specs.declared.rule.Mark.TheVariants.{None, Block}
+use Rattle.layout.specs.declared.rule.Mark.TheVariants.{Block}
 
 -- a number that is no kind is no block keyword
 pub after_no_kind : (n : ℕ) → ((k : Kind) → kind_number k ≡ n → ⊥) → Other ≡ after n
@@ -24,8 +24,8 @@ line_fits true l = tt
 line_fits false l = tt
 
 -- no block is due before a {
-block_fits : (l : Lexeme) (m : Mark) → Fitting m (lexeme l) → Fitting (cond (eqb l.kind 3) m Block) (lexeme l)
-block_fits l m h = cond_both (eqb l.kind 3) m Block (λ (x : Mark). Fitting x (lexeme l)) (λ e. h) (λ e. eqb-false l.kind 3 e)
+block_fits : (l : Lexeme) (m : Option Mark) → Fitting m (lexeme l) → Fitting (cond (eqb l.kind 3) m (Some Block)) (lexeme l)
+block_fits l m h = cond_both (eqb l.kind 3) m (Some Block) (λ (x : Option Mark). Fitting x (lexeme l)) (λ e. h) (λ e. eqb-false l.kind 3 e)
 
 pub mark_fits : (b : Before) (l : Lexeme) → Fitting (mark_of b l) (lexeme l)
 mark_fits Nothing l = block_fits l (line_mark l.first) (line_fits l.first l)

@@ -1,5 +1,5 @@
 -- Over two languages with the same lists, the rules and the calls come out the same. Assumes nothing.
-use Rattle.std.proofs.Common.{◌≡◌, ℕ, List, [], ◌∷◌, ◌++◌, map, length, is_ok, Ok, Err, Result, sym, refl, ap, ◌∙◌, subst, arith}
+use Rattle.std.proofs.Common.{◌≡◌, ℕ, List, [], ◌∷◌, ◌++◌, map, length, is_ok, Ok, Err, Result, sym, refl, ap, ◌∙◌, subst, arith, Option}
 use Rattle.std.proofs.lemmas.Bool.{false≢true, true≢false}
 use Rattle.parser.specs.Sets.{Lists, Same}
 use Rattle.sheet.specs.declared.fault.Reason.{Reason}
@@ -35,7 +35,7 @@ module _ (G H : Lists) (same : Same G H) where
   must_back u t [] m = elim m [ ]
   must_back u t (k ∷ ks) m = (m.0, λ v. m.1 (viable_same u t v), viable_back u 4 m.2)
 
-  applies_same : {u : List ℕ} {m : Mark} {c : Coming} {ks : List ℕ} {r : Rule} → Applies G u m c ks r → Applies H u m c ks r
+  applies_same : {u : List ℕ} {m : Option Mark} {c : Coming} {ks : List ℕ} {r : Rule} → Applies G u m c ks r → Applies H u m c ks r
   applies_same (separate e) = separate e
   applies_same (close_shallower h) = close_shallower h
   applies_same (drop_deeper h) = drop_deeper h
@@ -51,7 +51,7 @@ module _ (G H : Lists) (same : Same G H) where
   applies_same {u} (close_on_error {l = l} {ks = ks} p x) = close_on_error p (must_same u l.kind ks x)
   applies_same {u} (write_lexeme {l = l} {ks = ks} p x) = write_lexeme p (λ m. x (must_back u l.kind ks m))
 
-  one_rule : {u : List ℕ} {m : Mark} {c : Coming} {ks : List ℕ} {r s : Rule} → Applies G u m c ks r → Applies H u m c ks s → r ≡ s
+  one_rule : {u : List ℕ} {m : Option Mark} {c : Coming} {ks : List ℕ} {r s : Rule} → Applies G u m c ks r → Applies H u m c ks s → r ≡ s
   one_rule {u} a b = single_rule H u (applies_same a) b
 
   -- tokens go on alike
@@ -73,7 +73,7 @@ module _ (G H : Lists) (same : Same G H) where
   goes_alike (reach_spent room v) (reach_spent room' v') = refl
 
   -- and so do the rules over what comes
-  pub runs_alike : {u : List ℕ} {left : ℕ} {ks : List ℕ} {m : Mark} {c : Coming} {o o' : Result Laid Reason} → Runs G u left ks m c o → Runs H u left ks m c o' → o ≡ o'
+  pub runs_alike : {u : List ℕ} {left : ℕ} {ks : List ℕ} {m : Option Mark} {c : Coming} {o o' : Result Laid Reason} → Runs G u left ks m c o → Runs H u left ks m c o' → o ≡ o'
   runs_alike {u} {left} {ks} {m} {c} {o' = o'} (goes_on {left' = n} {m' = x} {r = r} a e g rest) (goes_on {left' = n'} {m' = x'} {r = r'} {o = p} a' e' g' rest') =
       let same = one_rule a a' in
       let marks : x' ≡ x = ap (λ w. mark_in w m) (sym e' ∙ ap onward (sym same) ∙ e) in

@@ -1,5 +1,5 @@
 -- How the rules over what comes end. Assumes nothing.
-use Rattle.std.proofs.Common.{◌≡◌, ℕ, ◌≤◌, List, [], ◌∷◌, ◌++◌, map, length, Ok, Err, sym, refl, ap, ◌∙◌, subst, arith}
+use Rattle.std.proofs.Common.{◌≡◌, ℕ, ◌≤◌, List, [], ◌∷◌, ◌++◌, map, length, Ok, Err, sym, refl, ap, ◌∙◌, subst, arith, Option}
 use Rattle.std.proofs.lemmas.List.{append-nil, map-append}
 use Rattle.parser.specs.Meaning.{Alike, Meaning}
 use Rattle.parser.specs.Runs.{after}
@@ -34,7 +34,7 @@ kinds_inserted (ending p) (k ∷ u) = ap (λ w. k ∷ w) (kinds_inserted (ending
 bound_of : (n m before : Meaning) (u : List ℕ) → Alike n m → Alike m (after u before) → Bound n before
 bound_of n m before u x y = record { language = same_trans x.language y.language; reach = x.reach ∙ y.reach; mark = mark_trans n.mark m.mark before.mark x.mark y.mark }
 
-module _ (cs ks : List ℕ) (m₀ : Mark) (before : Meaning) (e : Draft) (m : Mark) (now : Meaning) (r : Rule) where
+module _ (cs ks : List ℕ) (m₀ : Option Mark) (before : Meaning) (e : Draft) (m : Option Mark) (now : Meaning) (r : Rule) where
   -- the lexeme is written
   pub exit_written : (l : Lexeme) → Standing cs ks m₀ (lexeme l) before e m now → Applies before.remainder (tokens_of e) m (lexeme l) (contexts_of cs e) r → onward r ≡ lexeme_written → (next : Meaning) (f : Draft)
       → Step l.kind (length (contexts_of cs e)) now next (Ok tt) → tokens_of f ≡ tokens_of e → contexts_of cs f ≡ leaves r l.column (contexts_of cs e) → f.depth ≤ e.depth → Laying cs ks m₀ (lexeme l) before next (Ok f)
@@ -72,7 +72,7 @@ way lexeme_written = 1
 way ended = 2
 way undefined = 3
 
-no_lexeme : {G : Lists} {u : List ℕ} {m : Mark} {p : Place} {ks : List ℕ} {r : Rule} → Applies G u m (ending p) ks r → onward r ≡ lexeme_written → ⊥
+no_lexeme : {G : Lists} {u : List ℕ} {m : Option Mark} {p : Place} {ks : List ℕ} {r : Rule} → Applies G u m (ending p) ks r → onward r ≡ lexeme_written → ⊥
 no_lexeme (separate e) on = omega (arith, ap way on)
 no_lexeme (close_shallower h) on = omega (arith, ap way on)
 no_lexeme (drop_deeper h) on = omega (arith, ap way on)
@@ -83,7 +83,7 @@ no_lexeme (close_at_end h) on = omega (arith, ap way on)
 no_lexeme end on = omega (arith, ap way on)
 no_lexeme (block_left_open e) on = omega (arith, ap way on)
 
-no_end : {G : Lists} {u : List ℕ} {m : Mark} {l : Lexeme} {ks : List ℕ} {r : Rule} → Applies G u m (lexeme l) ks r → onward r ≡ ended → ⊥
+no_end : {G : Lists} {u : List ℕ} {m : Option Mark} {l : Lexeme} {ks : List ℕ} {r : Rule} → Applies G u m (lexeme l) ks r → onward r ≡ ended → ⊥
 no_end (separate e) on = omega (arith, ap way on)
 no_end (close_shallower h) on = omega (arith, ap way on)
 no_end (drop_deeper h) on = omega (arith, ap way on)
@@ -96,7 +96,7 @@ no_end (open_typed k) on = omega (arith, ap way on)
 no_end (close_on_error x y) on = omega (arith, ap way on)
 no_end (write_lexeme x y) on = omega (arith, ap way on)
 
-module _ (cs ks : List ℕ) (m₀ : Mark) (before : Meaning) (e : Draft) (m : Mark) (now : Meaning) (r : Rule) where
+module _ (cs ks : List ℕ) (m₀ : Option Mark) (before : Meaning) (e : Draft) (m : Option Mark) (now : Meaning) (r : Rule) where
   pub written_at : (c : Coming) → Standing cs ks m₀ c before e m now → Applies before.remainder (tokens_of e) m c (contexts_of cs e) r → onward r ≡ lexeme_written → (next : Meaning) (f : Draft)
       → Step (kind c) (length (contexts_of cs e)) now next (Ok tt) → tokens_of f ≡ tokens_of e → contexts_of cs f ≡ leaves r (column c) (contexts_of cs e) → f.depth ≤ e.depth → Laying cs ks m₀ c before next (Ok f)
   written_at (lexeme l) so rule on next f s = exit_written cs ks m₀ before e m now r l so rule on next f s

@@ -1,5 +1,5 @@
 -- Tokens in the shape of braces are written unchanged when they are fed: every block is explicit. Assumes nothing.
-use Rattle.std.proofs.Common.{◌≡◌, ℕ, zero, suc, ◌+◌, ◌-◌, ◌<◌, ◌≤◌, Bool, true, false, List, [], ◌∷◌, ◌++◌, map, length, replicate, Some, Ok, sym, refl, ◌∙◌, subst, arith}
+use Rattle.std.proofs.Common.{◌≡◌, ℕ, zero, suc, ◌+◌, ◌-◌, ◌<◌, ◌≤◌, Bool, true, false, List, [], ◌∷◌, ◌++◌, map, length, replicate, Some, Ok, sym, refl, ◌∙◌, subst, arith, None}
 use Rattle.std.proofs.lemmas.List.{append_assoc, append-nil, length-append, length-replicate}
 use Rattle.std.proofs.lemmas.Bool.{true≢false}
 use Rattle.parser.specs.Sets.{Lists}
@@ -19,7 +19,7 @@ use Rattle.layout.specs.declared.call.Call.TheVariants.{Feed as feed, Finish as 
 use Rattle.layout.specs.declared.rule.Before.{Before}
 use Rattle.layout.specs.declared.rule.Before.TheVariants.{Nothing, BlockKeyword, Other}
 use Rattle.layout.specs.declared.rule.Coming.TheVariants.{Lexeme as lexeme, End as ending}
-use Rattle.layout.specs.declared.rule.Mark.TheVariants.{None, Line}
+use Rattle.layout.specs.declared.rule.Mark.TheVariants.{Line}
 use Rattle.layout.proofs.Marked.{due, due_following, no_block}
 use Rattle.layout.specs.Shape.{Path, closes, here, opens, other}
 
@@ -57,7 +57,7 @@ module _ (H : Lists) where
   takes u (suc n) k d room v h = (n, goes (λ e. simp length-replicate (room e)) v done)
 
   -- the mark of a line is dropped
-  dropped : (u : List ℕ) (left d : ℕ) (l : Lexeme) (x : Laid) → 1 ≤ l.column → Runs H u left (explicits d) None (lexeme l) (Ok x) → Runs H u left (explicits d) Line (lexeme l) (Ok x)
+  dropped : (u : List ℕ) (left d : ℕ) (l : Lexeme) (x : Laid) → 1 ≤ l.column → Runs H u left (explicits d) None (lexeme l) (Ok x) → Runs H u left (explicits d) (Some Line) (lexeme l) (Ok x)
   dropped u left zero l x h r = goes_on {o = Ok x} drop_outside refl done (rw append-nil r)
   dropped u left (suc d) l x h r = goes_on {o = Ok x} (drop_deeper h) refl done (rw append-nil r)
 

@@ -1,5 +1,5 @@
 -- What comes is tried on a marked parser: accepted, refused, and taken back. Assumes nothing.
-use Rattle.std.proofs.Common.{◌≡◌, ℕ, ◌-◌, ◌<◌, ◌≤◌, List, [], ◌++◌, length, Ok, Err, Result, sym, ap, ◌∙◌, subst, arith}
+use Rattle.std.proofs.Common.{◌≡◌, ℕ, ◌-◌, ◌<◌, ◌≤◌, List, [], ◌++◌, length, Ok, Err, Result, sym, ap, ◌∙◌, subst, arith, Option}
 use Rattle.std.proofs.lemmas.List.{append-nil}
 use Rattle.parser.specs.Meaning.{Alike, Mark as Held, Meaning, SameMark, absent, holds, kept, marked, restored, returned}
 use Rattle.parser.specs.Runs.{after as after_kinds}
@@ -18,7 +18,7 @@ use Rattle.layout.specs.declared.rule.Coming.TheVariants.{Lexeme as lexeme, End 
 use Rattle.layout.specs.declared.rule.Mark.{Mark}
 use Rattle.layout.proofs.Shifts.{runs_at}
 
-module _ (cs ks : List ℕ) (m : Mark) (c : Coming) (free : ℕ) (before now : Meaning) where
+module _ (cs ks : List ℕ) (m : Option Mark) (c : Coming) (free : ℕ) (before now : Meaning) where
   -- the parser tells at the end whether what was written is a sentence
   whole_told : (c : Coming) (x : Laid) → Alike now (after_kinds (kinds x.tokens) before) → WholeAt now.remainder c → Whole before.remainder c x
   whole_told (lexeme l) x so w = tt
@@ -52,13 +52,13 @@ whole_same : {A R : Lists} (c : Coming) (x : Laid) → Same A R → Whole A c x 
 whole_same (lexeme l) x same w = tt
 whole_same (ending p) x same w = (same (kinds x.tokens)).0 w
 
-pub tries_same : {A R : Lists} {left : ℕ} {ks : List ℕ} {m : Mark} {c : Coming} {free : ℕ} {o : Result Laid Reason} → Same A R → Tries A left ks m c free o → Tries R left ks m c free o
+pub tries_same : {A R : Lists} {left : ℕ} {ks : List ℕ} {m : Option Mark} {c : Coming} {free : ℕ} {o : Result Laid Reason} → Same A R → Tries A left ks m c free o → Tries R left ks m c free o
 tries_same {A} {R} {c = c} same (Tries.fits {x = x} r w f) = Tries.fits (runs_at A R [] same r) (whole_same c x same w) f
 tries_same {A} {R} same (Tries.stopped r) = Tries.stopped (runs_at A R [] same r)
 tries_same {A} {R} {c = c} same (Tries.not_whole {x = x} r n) = Tries.not_whole (runs_at A R [] same r) (λ w. n (whole_same c x (same_sym same) w))
 tries_same {A} {R} {c = c} same (Tries.no_room {x = x} r w f) = Tries.no_room (runs_at A R [] same r) (whole_same c x same w) f
 
-module _ (cs ks : List ℕ) (m : Mark) (c : Coming) (free : ℕ) (before mid now last : Meaning) (mark : Alike mid (marked before)) where
+module _ (cs ks : List ℕ) (m : Option Mark) (c : Coming) (free : ℕ) (before mid now last : Meaning) (mark : Alike mid (marked before)) where
   tried : {o : Result Laid Reason} → Tries mid.remainder mid.left ks m c free o → Tries before.remainder before.left ks m c free o
   tried {o} t = subst (λ n. Tries before.remainder n ks m c free o) mark.left (tries_same mark.remainder t)
 

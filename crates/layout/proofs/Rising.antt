@@ -1,5 +1,5 @@
 -- The rules leave contexts that rise, within the depth limit. Assumes nothing.
-use Rattle.std.proofs.Common.{◌≡◌, ℕ, ◌<◌, ◌≤◌, Bool, true, false, ◌&&◌, ◌||◌, eqb, ltb, List, [], ◌∷◌, length, Ok, Err, Result, refl, ap, subst, arith}
+use Rattle.std.proofs.Common.{◌≡◌, ℕ, ◌<◌, ◌≤◌, Bool, true, false, ◌&&◌, ◌||◌, eqb, ltb, List, [], ◌∷◌, length, Ok, Err, Result, refl, ap, subst, arith, Option}
 use Rattle.std.proofs.lemmas.Bool.{and_parts, lt-ltb}
 use Rattle.parser.specs.Sets.{Lists}
 use Rattle.sheet.specs.declared.fault.Reason.{Reason}
@@ -52,7 +52,7 @@ room_of : {R : Lists} {depth : ℕ} {u : List ℕ} {left n : ℕ} {w : List ℕ}
 room_of (goes room v g) = room refl
 
 -- a rule that goes on at a mark
-sound_onward : {R : Lists} {u ks : List ℕ} {left n : ℕ} {m m' : Mark} {c : Coming} {r : Rule} → Applies R u m c ks r → onward r ≡ at_mark m' → Goes R (length ks) u left (inserts r) (Ok n) → Sound ks → Sound (leaves r (column c) ks)
+sound_onward : {R : Lists} {u ks : List ℕ} {left n : ℕ} {m m' : Option Mark} {c : Coming} {r : Rule} → Applies R u m c ks r → onward r ≡ at_mark m' → Goes R (length ks) u left (inserts r) (Ok n) → Sound ks → Sound (leaves r (column c) ks)
 sound_onward (separate e) on g so = so
 sound_onward {ks = ks} (close_shallower h) on g so = popped ks so
 sound_onward (drop_deeper h) on g so = so
@@ -69,7 +69,7 @@ sound_onward end on g so = so
 sound_onward (block_left_open e) on g so = so
 
 -- a rule that writes the lexeme
-sound_written : {R : Lists} {u ks : List ℕ} {left n : ℕ} {m : Mark} {l : Lexeme} {r : Rule} → Applies R u m (lexeme l) ks r → onward r ≡ lexeme_written → Goes R (length ks) u left (l.kind ∷ []) (Ok n) → Sound ks → Sound (leaves r l.column ks)
+sound_written : {R : Lists} {u ks : List ℕ} {left n : ℕ} {m : Option Mark} {l : Lexeme} {r : Rule} → Applies R u m (lexeme l) ks r → onward r ≡ lexeme_written → Goes R (length ks) u left (l.kind ∷ []) (Ok n) → Sound ks → Sound (leaves r l.column ks)
 sound_written (separate e) on g so = so
 sound_written (close_shallower h) on g so = absurd (omega (arith, ap way on))
 sound_written (drop_deeper h) on g so = so
@@ -86,7 +86,7 @@ before_sound : (ts : List Token) (o : Result Laid Reason) → SoundIn o → Soun
 before_sound ts (Ok x) so = so
 before_sound ts (Err why) so = so
 
-pub runs_sound : {R : Lists} {u ks : List ℕ} {left : ℕ} {m : Mark} {c : Coming} {o : Result Laid Reason} → Runs R u left ks m c o → Sound ks → SoundIn o
+pub runs_sound : {R : Lists} {u ks : List ℕ} {left : ℕ} {m : Option Mark} {c : Coming} {o : Result Laid Reason} → Runs R u left ks m c o → Sound ks → SoundIn o
 runs_sound (Runs.goes_on {o = o} a e g rest) so = before_sound _ o (runs_sound rest (sound_onward a e g so))
 runs_sound (Runs.stops a e g) so = tt
 runs_sound (Runs.writes a e g) so = sound_written a e g so

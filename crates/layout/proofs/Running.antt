@@ -1,5 +1,5 @@
 -- The rules on their way over what comes. Assumes nothing.
-use Rattle.std.proofs.Common.{◌≡◌, ℕ, ◌+◌, ◌*◌, ◌<◌, ◌≤◌, Bool, true, false, ◌⊎◌, List, [], ◌∷◌, ◌++◌, map, length, replicate, is_some, None as none, Ok, Err, Result, sym, refl, ap, ◌∙◌, subst, inl, inr, ⊎_elim, arith, length-append}
+use Rattle.std.proofs.Common.{◌≡◌, ℕ, ◌+◌, ◌*◌, ◌<◌, ◌≤◌, Bool, true, false, ◌⊎◌, List, [], ◌∷◌, ◌++◌, map, length, replicate, is_some, None as none, Ok, Err, Result, sym, refl, ap, ◌∙◌, subst, inl, inr, ⊎_elim, arith, length-append, Option, Some}
 use Rattle.std.proofs.lemmas.List.{append_assoc, append-nil, map-append}
 use Rattle.std.proofs.lemmas.Bool.{cases_Bool, false≢true, true≢false}
 use Rattle.parser.specs.Meaning.{Alike, Meaning}
@@ -17,7 +17,7 @@ use Rattle.layout.specs.Rules.{Applies, block_left_open, close_at_end, close_on_
 use Rattle.layout.specs.declared.draft.Draft.{Draft}
 use Rattle.layout.specs.declared.rule.Coming.{Coming}
 use Rattle.layout.specs.declared.rule.Mark.{Mark}
-use Rattle.layout.specs.declared.rule.Mark.TheVariants.{None, Line, Block}
+use Rattle.layout.specs.declared.rule.Mark.TheVariants.{Line, Block}
 use Rattle.layout.specs.declared.rule.Onward.{Onward}
 use Rattle.layout.specs.declared.rule.Onward.TheVariants.{Mark as at_mark, Lexeme as lexeme_written, End as ended, Undefined as undefined}
 use Rattle.layout.specs.declared.rule.Rule.{Rule}
@@ -27,13 +27,13 @@ use Rattle.layout.proofs.Stacks.{length_stack}
 use Rattle.layout.proofs.Shifts.{applies_at, goes_at}
 
 -- what a draft may have inserted at each mark
-abbrev pub Phase : Mark → Draft → Type 0
-Phase None d = Unit {0}
-Phase Line d = (d.separator ≡ false) × (d.closes_after ≡ 0)
-Phase Block d = (d.brace ≡ false) × (d.closes ≡ 0) × (d.separator ≡ false) × (d.closes_after ≡ 0) × (is_some d.opened ≡ false)
+abbrev pub Phase : Option Mark → Draft → Type 0
+Phase none d = Unit {0}
+Phase (Some Line) d = (d.separator ≡ false) × (d.closes_after ≡ 0)
+Phase (Some Block) d = (d.brace ≡ false) × (d.closes ≡ 0) × (d.separator ≡ false) × (d.closes_after ≡ 0) × (is_some d.opened ≡ false)
 
 -- so the tokens of the rule that applies can be inserted
-pub phase_next : {G : Lists} {u : List ℕ} {m : Mark} {c : Coming} {ks : List ℕ} {r : Rule} (d : Draft) → Applies G u m c ks r → Phase m d → NextAll d (inserting r)
+pub phase_next : {G : Lists} {u : List ℕ} {m : Option Mark} {c : Coming} {ks : List ℕ} {r : Rule} (d : Draft) → Applies G u m c ks r → Phase m d → NextAll d (inserting r)
 phase_next d (separate e) p = (p, tt)
 phase_next d (close_shallower h) p = (tt, tt)
 phase_next d (drop_deeper h) p = tt
@@ -50,28 +50,28 @@ phase_next d end p = tt
 phase_next d (block_left_open e) p = tt
 
 -- tokens that the rules may still insert at a mark
-abbrev pub weight : Mark → ℕ
-weight None = 0
-weight Line = 1
-weight Block = 3
+abbrev pub weight : Option Mark → ℕ
+weight none = 0
+weight (Some Line) = 1
+weight (Some Block) = 3
 
 -- no token, no refusal
 nothing_stops : {R : Lists} {depth : ℕ} {u : List ℕ} {left : ℕ} {why : Reason} → Goes R depth u left [] (Err why) → ⊥
 nothing_stops g = elim g [ ]
 
 -- a rule goes on at a mark or inserts nothing
-goes_or_none : (r : Rule) → ((m : Mark) × (onward r ≡ at_mark m)) ⊎ (inserting r ≡ [])
-goes_or_none Separate = inl (None, refl)
-goes_or_none CloseShallower = inl (Line, refl)
+goes_or_none : (r : Rule) → ((m : Option Mark) × (onward r ≡ at_mark m)) ⊎ (inserting r ≡ [])
+goes_or_none Separate = inl (none, refl)
+goes_or_none CloseShallower = inl ((Some Line), refl)
 goes_or_none DropMark = inr refl
-goes_or_none OpenBlock = inl (None, refl)
-goes_or_none EmptyBlock = inl (Line, refl)
+goes_or_none OpenBlock = inl (none, refl)
+goes_or_none EmptyBlock = inl ((Some Line), refl)
 goes_or_none CloseTyped = inr refl
 goes_or_none StrayClose = inr refl
 goes_or_none OpenTyped = inr refl
-goes_or_none CloseOnError = inl (None, refl)
+goes_or_none CloseOnError = inl (none, refl)
 goes_or_none WriteLexeme = inr refl
-goes_or_none CloseAtEnd = inl (None, refl)
+goes_or_none CloseAtEnd = inl (none, refl)
 goes_or_none End = inr refl
 goes_or_none BlockLeftOpen = inr refl
 
@@ -87,11 +87,11 @@ after_on u w before now so =
     }
 
 -- the mark at which a rule goes on
-abbrev pub mark_in : Onward → Mark
+abbrev pub mark_in : Onward → Option Mark
 mark_in (at_mark m) = m
-mark_in lexeme_written = None
-mark_in ended = None
-mark_in undefined = None
+mark_in lexeme_written = none
+mark_in ended = none
+mark_in undefined = none
 
 -- whether it goes on at all
 abbrev pub at_some : Onward → Bool
@@ -101,13 +101,13 @@ at_some ended = false
 at_some undefined = false
 
 -- how many rules may still apply at a mark, the contexts aside
-abbrev pub rank : Mark → ℕ
-rank None = 0
-rank Line = 1
-rank Block = 5
+abbrev pub rank : Option Mark → ℕ
+rank none = 0
+rank (Some Line) = 1
+rank (Some Block) = 5
 
 -- each rule leaves fewer
-pub rule_rank : {G : Lists} {u : List ℕ} {m : Mark} {c : Coming} {ks : List ℕ} {r : Rule} → Applies G u m c ks r → at_some (onward r) ≡ true → 3 * length (leaves r (column c) ks) + rank (mark_in (onward r)) < 3 * length ks + rank m
+pub rule_rank : {G : Lists} {u : List ℕ} {m : Option Mark} {c : Coming} {ks : List ℕ} {r : Rule} → Applies G u m c ks r → at_some (onward r) ≡ true → 3 * length (leaves r (column c) ks) + rank (mark_in (onward r)) < 3 * length ks + rank m
 rule_rank (separate e) on = omega arith
 rule_rank (close_shallower h) on = omega arith
 rule_rank (drop_deeper h) on = omega arith
@@ -141,7 +141,7 @@ inserting_few End = omega arith
 inserting_few BlockLeftOpen = omega arith
 
 -- a rule opens a block only where the call has opened none
-pub single_open : {G : Lists} {u : List ℕ} {m : Mark} {c : Coming} {ks : List ℕ} {r : Rule} (d : Draft) → Applies G u m c ks r → Phase m d → (is_some d.opened ≡ true → kind c ≡ 3 → ⊥) → opening r ≡ true → is_some d.opened ≡ false
+pub single_open : {G : Lists} {u : List ℕ} {m : Option Mark} {c : Coming} {ks : List ℕ} {r : Rule} (d : Draft) → Applies G u m c ks r → Phase m d → (is_some d.opened ≡ true → kind c ≡ 3 → ⊥) → opening r ≡ true → is_some d.opened ≡ false
 single_open d (separate e) p b o = absurd (false≢true o)
 single_open d (close_shallower h) p b o = absurd (false≢true o)
 single_open d (drop_deeper h) p b o = absurd (false≢true o)
@@ -158,7 +158,7 @@ single_open d end p b o = absurd (false≢true o)
 single_open d (block_left_open e) p b o = absurd (false≢true o)
 
 -- and that is so also when its tokens are inserted
-pub still_single : {G : Lists} {u : List ℕ} {m : Mark} {c : Coming} {ks : List ℕ} {r : Rule} {ts : List Insert} {n : ℕ} {now next : Meaning} (d e : Draft) → Applies G u m c ks r → Phase m d → (is_some d.opened ≡ true → kind c ≡ 3 → ⊥) → Inserted ts n d now next (Ok e)
+pub still_single : {G : Lists} {u : List ℕ} {m : Option Mark} {c : Coming} {ks : List ℕ} {r : Rule} {ts : List Insert} {n : ℕ} {now next : Meaning} (d e : Draft) → Applies G u m c ks r → Phase m d → (is_some d.opened ≡ true → kind c ≡ 3 → ⊥) → Inserted ts n d now next (Ok e)
     → opening r ≡ true → is_some e.opened ≡ false
 still_single d e a p b (drafted g x tokens depth opened row) o = ap is_some opened ∙ single_open d a p b o
 
@@ -167,7 +167,7 @@ pub inserted_contexts : (cs : List ℕ) {ts : List Insert} {n : ℕ} {now next :
 inserted_contexts cs d e (drafted g x tokens depth opened row) = λ i. with_opened (opened i) (stack cs (depth i))
 
 -- what a rule leaves of what may still be inserted
-rule_weight : {G : Lists} {u : List ℕ} {m : Mark} {c : Coming} {ks : List ℕ} {r : Rule} → Applies G u m c ks r → at_some (onward r) ≡ true → length (inserts r) + length (leaves r (column c) ks) + weight (mark_in (onward r)) ≤ length ks + weight m
+rule_weight : {G : Lists} {u : List ℕ} {m : Option Mark} {c : Coming} {ks : List ℕ} {r : Rule} → Applies G u m c ks r → at_some (onward r) ≡ true → length (inserts r) + length (leaves r (column c) ks) + weight (mark_in (onward r)) ≤ length ks + weight m
 rule_weight (separate e) on = omega arith
 rule_weight (close_shallower h) on = omega arith
 rule_weight (drop_deeper h) on = omega arith
@@ -185,7 +185,7 @@ rule_weight end on = absurd (false≢true on)
 rule_weight (block_left_open e) on = absurd (false≢true on)
 
 -- what a draft may have inserted at the next mark
-phase_after : {G : Lists} {u : List ℕ} {m : Mark} {c : Coming} {ks : List ℕ} {r : Rule} (d e : Draft) → Applies G u m c ks r → Phase m d → (no_separator (inserting r) ≡ true → d.separator ≡ false → Row d e) → Phase (mark_in (onward r)) e
+phase_after : {G : Lists} {u : List ℕ} {m : Option Mark} {c : Coming} {ks : List ℕ} {r : Rule} (d e : Draft) → Applies G u m c ks r → Phase m d → (no_separator (inserting r) ≡ true → d.separator ≡ false → Row d e) → Phase (mark_in (onward r)) e
 phase_after d e (separate x) p row = tt
 phase_after d e (close_shallower h) p row = let kept = row refl p.0 in (kept.0, kept.1 ∙ p.1)
 phase_after d e (drop_deeper h) p row = tt
@@ -218,7 +218,7 @@ fitting_after End c = tt
 fitting_after BlockLeftOpen c = tt
 
 -- a rule that opens a block and goes on stands at the mark of one
-opens_at_block : {G : Lists} {u : List ℕ} {m : Mark} {c : Coming} {ks : List ℕ} {r : Rule} → Applies G u m c ks r → at_some (onward r) ≡ true → Fitting m c → opening r ≡ true → kind c ≡ 3 → ⊥
+opens_at_block : {G : Lists} {u : List ℕ} {m : Option Mark} {c : Coming} {ks : List ℕ} {r : Rule} → Applies G u m c ks r → at_some (onward r) ≡ true → Fitting m c → opening r ≡ true → kind c ≡ 3 → ⊥
 opens_at_block (separate e) on f o = absurd (false≢true o)
 opens_at_block (close_shallower h) on f o = absurd (false≢true o)
 opens_at_block (drop_deeper h) on f o = absurd (false≢true o)
@@ -239,21 +239,21 @@ before_twice : (a b : List Token) (o : Result Laid Reason) → and_before a (and
 before_twice a b (Ok x) = ap (λ l. Ok (record { tokens = l; contexts = x.contexts })) (sym (append_assoc a b x.tokens))
 before_twice a b (Err why) = refl
 
-module _ (cs ks : List ℕ) (m₀ : Mark) (c : Coming) (before : Meaning) where
+module _ (cs ks : List ℕ) (m₀ : Option Mark) (c : Coming) (before : Meaning) where
   -- the parser has taken what is drafted, and what the rules still do completes what they do in all
-  pub record Standing (d : Draft) (m : Mark) (now : Meaning) : Type 0 where
+  pub record Standing (d : Draft) (m : Option Mark) (now : Meaning) : Type 0 where
     pub steps : Alike now (after (tokens_of d) before)
     pub runs : (o : Result Laid Reason) → Runs before.remainder (tokens_of d) now.left (contexts_of cs d) m c o → Runs before.remainder [] before.left ks m₀ c (and_before (map (inserted c) (tokens_of d)) o)
     pub shallow : d.depth ≤ length ks
 
-  pub record Running (d : Draft) (m : Mark) (now : Meaning) : Type 0 where
+  pub record Running (d : Draft) (m : Option Mark) (now : Meaning) : Type 0 where
     pub stands : Standing d m now
     pub phase : Phase m d
     pub fitting : Fitting m c
     pub brace : is_some d.opened ≡ true → kind c ≡ 3 → ⊥
     pub small : length (tokens_of d) + length (contexts_of cs d) + weight m ≤ 67
 
-  module _ (d : Draft) (m : Mark) (now : Meaning) (r : Rule) (so : Running d m now) (a : Applies now.remainder [] m c (contexts_of cs d) r) where
+  module _ (d : Draft) (m : Option Mark) (now : Meaning) (r : Rule) (so : Running d m now) (a : Applies now.remainder [] m c (contexts_of cs d) r) where
     -- the rule as it applies after the kinds written
     rule : Applies before.remainder (tokens_of d) m c (contexts_of cs d) r
     rule = applies_at now.remainder before.remainder (tokens_of d) so.stands.steps.remainder a
@@ -272,14 +272,14 @@ module _ (cs ks : List ℕ) (m₀ : Mark) (c : Coming) (before : Meaning) where
     pub running_stops : (next : Meaning) (why : Reason) → Inserted (inserting r) (length (contexts_of cs d)) d now next (Err why) → Laying cs ks m₀ c before next (Err why)
     running_stops next why (refused g b) = ⊎_elim on none (goes_or_none r)
       where
-        on : (m' : Mark) × (onward r ≡ at_mark m') → Laying cs ks m₀ c before next (Err why)
+        on : (m' : Option Mark) × (onward r ≡ at_mark m') → Laying cs ks m₀ c before next (Err why)
         on x = stopped (so.stands.runs (Err why) (stops rule x.1 (written_on _ g))) (bound_on next b)
 
         none : inserting r ≡ [] → Laying cs ks m₀ c before next (Err why)
         none e = absurd (nothing_stops (subst (λ (l : List Insert). Goes now.remainder (length (contexts_of cs d)) [] now.left (map insert_kind l) (Err why)) e g))
 
     -- the rule goes on at another mark
-    pub running_more : (next : Meaning) (e f : Draft) (m' : Mark) → onward r ≡ at_mark m' → Inserted (inserting r) (length (contexts_of cs d)) d now next (Ok e)
+    pub running_more : (next : Meaning) (e f : Draft) (m' : Option Mark) → onward r ≡ at_mark m' → Inserted (inserting r) (length (contexts_of cs d)) d now next (Ok e)
         → tokens_of f ≡ tokens_of e → contexts_of cs f ≡ leaves r (column c) (contexts_of cs e) → f.depth ≤ e.depth → (opening r ≡ false → is_some f.opened ≡ true → is_some e.opened ≡ true)
         → (f.separator ≡ e.separator) × (f.closes_after ≡ e.closes_after) → Running f m' next
     running_more next e f m' on (drafted g x tokens depth opened row) same contexts shallow brace kept =
@@ -299,8 +299,8 @@ module _ (cs ks : List ℕ) (m₀ : Mark) (c : Coming) (before : Meaning) where
                 (so.stands.runs _ (goes_on rule on (written_on (inserts r) g) moved));
             shallow = omega (arith, depth, so.stands.shallow);
           };
-          phase = subst (λ (x : Mark). Phase x f) at (phase_after d f a so.phase (λ n p. let kept_row = row n p in (kept.0 ∙ kept_row.0, kept.1 ∙ kept_row.1)));
-          fitting = subst (λ (x : Mark). Fitting x c) at (fitting_after r c);
+          phase = subst (λ (x : Option Mark). Phase x f) at (phase_after d f a so.phase (λ n p. let kept_row = row n p in (kept.0 ∙ kept_row.0, kept.1 ∙ kept_row.1)));
+          fitting = subst (λ (x : Option Mark). Fitting x c) at (fitting_after r c);
           brace = λ some. ⊎_elim (opens_at_block a goes so.fitting) (λ n. so.brace (ap is_some (sym opened) ∙ brace n some)) (cases_Bool (opening r));
           small = omega (arith, so.small, rule_weight a goes, ap length grown, length-append (tokens_of d) (inserts r), ap length left, ap weight at);
         }
@@ -321,7 +321,7 @@ none_inserted CloseAtEnd e = absurd (true≢false e)
 none_inserted End e = refl
 none_inserted BlockLeftOpen e = refl
 
-module _ (cs ks : List ℕ) (m₀ : Mark) (c : Coming) (before : Meaning) (d : Draft) (m : Mark) (now : Meaning) (r : Rule) (so : Running cs ks m₀ c before d m now) (a : Applies now.remainder [] m c (contexts_of cs d) r) (next : Meaning) (e : Draft) where
+module _ (cs ks : List ℕ) (m₀ : Option Mark) (c : Coming) (before : Meaning) (d : Draft) (m : Option Mark) (now : Meaning) (r : Rule) (so : Running cs ks m₀ c before d m now) (a : Applies now.remainder [] m c (contexts_of cs d) r) (next : Meaning) (e : Draft) where
   -- where nothing is inserted, all stands as before
   pub same_stand : at_some (onward r) ≡ false → Inserted (inserting r) (length (contexts_of cs d)) d now next (Ok e) → Standing cs ks m₀ c before e m next × (length (contexts_of cs e) ≡ length (contexts_of cs d)) × Applies before.remainder (tokens_of e) m c (contexts_of cs e) r
   same_stand nothing (drafted g x tokens depth opened row) =
@@ -348,17 +348,17 @@ before_nothing : (o : Result Laid Reason) → o ≡ and_before [] o
 before_nothing (Ok x) = refl
 before_nothing (Err why) = refl
 
-phase_new : (m : Mark) (d : Draft) → Phase Block d → Phase m d
-phase_new None d p = tt
-phase_new Line d p = (p.2, p.3)
-phase_new Block d p = p
+phase_new : (m : Option Mark) (d : Draft) → Phase (Some Block) d → Phase m d
+phase_new none d p = tt
+phase_new (Some Line) d p = (p.2, p.3)
+phase_new (Some Block) d p = p
 
-weight_few : (m : Mark) → weight m ≤ 3
-weight_few None = omega arith
-weight_few Line = omega arith
-weight_few Block = omega arith
+weight_few : (m : Option Mark) → weight m ≤ 3
+weight_few none = omega arith
+weight_few (Some Line) = omega arith
+weight_few (Some Block) = omega arith
 
-pub running_new : (cs : List ℕ) (depth : ℕ) (m : Mark) (c : Coming) (before : Meaning) (d : Draft) → d.depth ≡ depth → d.opened ≡ none → (d.brace ≡ false) × (d.closes ≡ 0) × (d.separator ≡ false) × (d.closes_after ≡ 0) → depth ≤ 64 → Fitting m c
+pub running_new : (cs : List ℕ) (depth : ℕ) (m : Option Mark) (c : Coming) (before : Meaning) (d : Draft) → d.depth ≡ depth → d.opened ≡ none → (d.brace ≡ false) × (d.closes ≡ 0) × (d.separator ≡ false) × (d.closes_after ≡ 0) → depth ≤ 64 → Fitting m c
     → Running cs (stack cs depth) m c before d m before
 running_new cs depth m c before d at opened row small fitting =
     let none_yet : tokens_of d ≡ [] = (λ i. if_set (row.0 i) 3 ++ (replicate (row.1 i) 4 ++ (if_set (row.2 i) 5 ++ replicate (row.3 i) 4))) in

@@ -1,5 +1,5 @@
 -- A run over a language is one over any language with the same lists. Assumes nothing.
-use Rattle.std.proofs.Common.{◌≡◌, ℕ, List, [], Result, subst}
+use Rattle.std.proofs.Common.{◌≡◌, ℕ, List, [], Result, subst, Option}
 use Rattle.parser.specs.Sets.{Lists, Same}
 use Rattle.sheet.specs.declared.fault.Reason.{Reason}
 use Rattle.sheet.specs.declared.lexeme.Lexeme.{Lexeme}
@@ -15,7 +15,7 @@ use Rattle.layout.specs.declared.rule.Mark.{Mark}
 use Rattle.layout.proofs.Shifts.{runs_on}
 
 module _ (G H : Lists) (same : Same G H) (reach : ℕ) where
-  rules : {u : List ℕ} {left : ℕ} {ks : List ℕ} {m : Mark} {c : Coming} {o : Result Laid Reason} → Runs G u left ks m c o → Runs H u left ks m c o
+  rules : {u : List ℕ} {left : ℕ} {ks : List ℕ} {m : Option Mark} {c : Coming} {o : Result Laid Reason} → Runs G u left ks m c o → Runs H u left ks m c o
   rules r = runs_on G H [] same r
 
   feed_same : {s : State} {t : ℕ} {l : Lexeme} {free : ℕ} {why : Reason} → FeedFails G reach s t l free why → FeedFails H reach s t l free why

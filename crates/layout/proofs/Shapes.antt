@@ -1,5 +1,5 @@
 -- What the rules write has the shape of braces. Assumes nothing.
-use Rattle.std.proofs.Common.{◌≡◌, ℕ, suc, ◌+◌, ◌<◌, ◌≤◌, Bool, true, false, List, [], ◌∷◌, ◌++◌, map, length, Ok, Err, Result, sym, refl, ap, ◌∙◌, subst, arith}
+use Rattle.std.proofs.Common.{◌≡◌, ℕ, suc, ◌+◌, ◌<◌, ◌≤◌, Bool, true, false, List, [], ◌∷◌, ◌++◌, map, length, Ok, Err, Result, sym, refl, ap, ◌∙◌, subst, arith, None, Option, Some}
 use Rattle.std.proofs.lemmas.List.{length-append, length-map, map-append}
 use Rattle.parser.specs.Sets.{Lists}
 use Rattle.sheet.specs.declared.fault.Reason.{Reason}
@@ -13,7 +13,7 @@ use Rattle.layout.specs.Rules.{Applies, block_left_open, close_at_end, close_on_
 use Rattle.layout.specs.declared.rule.Coming.{Coming}
 use Rattle.layout.specs.declared.rule.Coming.TheVariants.{Lexeme as lexeme, End as ending}
 use Rattle.layout.specs.declared.rule.Mark.{Mark}
-use Rattle.layout.specs.declared.rule.Mark.TheVariants.{None, Line, Block}
+use Rattle.layout.specs.declared.rule.Mark.TheVariants.{Line, Block}
 use Rattle.layout.specs.declared.rule.Onward.TheVariants.{Lexeme as lexeme_written, End as ended}
 use Rattle.layout.specs.declared.rule.Rule.{Rule}
 use Rattle.layout.proofs.Exits.{kinds_inserted}
@@ -22,18 +22,18 @@ use Rattle.layout.specs.Shape.{Path, closes, here, opens, other}
 use Rattle.layout.proofs.Single.{mark_in, way}
 
 -- where a { is due before what comes: at the mark of a block, or at a typed {
-abbrev pub Ready : Bool → Mark → Coming → List ℕ → Type 0
+abbrev pub Ready : Bool → Option Mark → Coming → List ℕ → Type 0
 Ready false m c ks = Unit {0}
 Ready true None c ks = kind c ≡ 3
-Ready true Line c ks = (kind c ≡ 3) × (ks ≡ [])
-Ready true Block c ks = Unit {0}
+Ready true (Some Line) c ks = (kind c ≡ 3) × (ks ≡ [])
+Ready true (Some Block) c ks = Unit {0}
 
 -- a { that was written found room
 goes_room : {R : Lists} {depth : ℕ} {u : List ℕ} {left n : ℕ} {w : List ℕ} → Goes R depth u left (3 ∷ w) (Ok n) → depth < 64
 goes_room (Goes.goes room v g) = room refl
 
 -- where a rule leads that goes on at a mark
-pub record Leads (b : Bool) (m : Mark) (c : Coming) (ks : List ℕ) (r : Rule) (m' : Mark) : Type 0 where
+pub record Leads (b : Bool) (m : Option Mark) (c : Coming) (ks : List ℕ) (r : Rule) (m' : Option Mark) : Type 0 where
   pub flag : Bool
   pub path : Path (length ks) b (inserts r) (length (leaves r (column c) ks)) flag
   pub ready : Ready flag m' c (leaves r (column c) ks)
@@ -44,7 +44,7 @@ not_empty k ks e = omega (arith, ap length e)
 semicolon_path : {d : ℕ} → Path d false (5 ∷ []) d false
 semicolon_path = other (λ e. omega arith) (λ e. omega arith) (omega arith) (omega arith) here
 
-leads : {G : Lists} {u : List ℕ} {m : Mark} {c : Coming} {ks : List ℕ} {r : Rule} {left n : ℕ} (b : Bool) → Applies G u m c ks r → way (onward r) ≡ 0 → Ready b m c ks → Goes G (length ks) u left (inserts r) (Ok n) → Leads b m c ks r (mark_in (onward r) None)
+leads : {G : Lists} {u : List ℕ} {m : Option Mark} {c : Coming} {ks : List ℕ} {r : Rule} {left n : ℕ} (b : Bool) → Applies G u m c ks r → way (onward r) ≡ 0 → Ready b m c ks → Goes G (length ks) u left (inserts r) (Ok n) → Leads b m c ks r (mark_in (onward r) None)
 leads true (separate {k = k} {ks = ks} e) on x g = absurd (not_empty k ks x.1)
 leads false (separate e) on x g = record { flag = false; path = semicolon_path; ready = tt }
 leads true (close_shallower {k = k} {ks = ks} h) on x g = absurd (not_empty k ks x.1)
@@ -68,7 +68,7 @@ leads b end on x g = absurd (omega arith)
 leads b (block_left_open e) on x g = absurd (omega arith)
 
 -- where a rule leads that writes the lexeme
-written_path : {G : Lists} {u : List ℕ} {m : Mark} {l : Lexeme} {ks : List ℕ} {r : Rule} {left n : ℕ} (b : Bool) → Applies G u m (lexeme l) ks r → onward r ≡ lexeme_written → Ready b m (lexeme l) ks → Goes G (length ks) u left (l.kind ∷ []) (Ok n)
+written_path : {G : Lists} {u : List ℕ} {m : Option Mark} {l : Lexeme} {ks : List ℕ} {r : Rule} {left n : ℕ} (b : Bool) → Applies G u m (lexeme l) ks r → onward r ≡ lexeme_written → Ready b m (lexeme l) ks → Goes G (length ks) u left (l.kind ∷ []) (Ok n)
     → (1 ≤ l.kind) × (l.kind ≤ 15) → Path (length ks) b (l.kind ∷ []) (length (leaves r l.column ks)) (opens_block l.kind)
 written_path b (separate e) on x g h = absurd (omega (arith, ap way on))
 written_path b (close_shallower e) on x g h = absurd (omega (arith, ap way on))
@@ -87,7 +87,7 @@ written_path true (write_lexeme p x) on y g h = absurd (p.0 y)
 written_path false (write_lexeme p x) on y g h = other p.0 p.1 h.0 h.1 here
 
 -- where the rules lead that end: no block is open, and none is due
-end_path : {G : Lists} {u : List ℕ} {m : Mark} {p : Place} {ks : List ℕ} {r : Rule} (b : Bool) → Applies G u m (ending p) ks r → onward r ≡ ended → Ready b m (ending p) ks → Path (length ks) b [] 0 false
+end_path : {G : Lists} {u : List ℕ} {m : Option Mark} {p : Place} {ks : List ℕ} {r : Rule} (b : Bool) → Applies G u m (ending p) ks r → onward r ≡ ended → Ready b m (ending p) ks → Path (length ks) b [] 0 false
 end_path b (separate e) on x = absurd (omega (arith, ap way on))
 end_path b (close_shallower e) on x = absurd (omega (arith, ap way on))
 end_path b (drop_deeper e) on x = absurd (omega (arith, ap way on))
@@ -136,10 +136,10 @@ shaped_after {w = w} left rest c p n (Ok x) s =
 shaped_after left rest c p n (Err w) s = tt
 
 -- what the rules write over a lexeme or over the end has a shape
-pub runs_shaped : {G : Lists} {u : List ℕ} {left : ℕ} {ks : List ℕ} {m : Mark} {c : Coming} {o : Result Laid Reason} (b : Bool) → Runs G u left ks m c o → Known c → Ready b m c ks → Shaped (length ks) b left c o
+pub runs_shaped : {G : Lists} {u : List ℕ} {left : ℕ} {ks : List ℕ} {m : Option Mark} {c : Coming} {o : Result Laid Reason} (b : Bool) → Runs G u left ks m c o → Known c → Ready b m c ks → Shaped (length ks) b left c o
 runs_shaped {left = left} {ks = ks} {c = c} b (Runs.goes_on {left' = n} {r = r} {o = o} a e g rest) h x =
     let y = leads b a (ap way e) x g in
-    let ready = subst (λ (m : Mark). Ready y.flag m c (leaves r (column c) ks)) (ap (λ w. mark_in w None) e) y.ready in
+    let ready = subst (λ (m : Option Mark). Ready y.flag m c (leaves r (column c) ks)) (ap (λ w. mark_in w None) e) y.ready in
     shaped_after left n c y.path (goes_count g) o (runs_shaped y.flag rest h ready)
 runs_shaped b (Runs.stops a e g) h x = tt
 runs_shaped b (Runs.writes a e g) h x = record { path = written_path b a e x g h; fits = omega (arith, goes_count g) }

@@ -1,5 +1,5 @@
 -- What is tried of a lexeme or of the end, as a call on the open sheet. Assumes nothing.
-use Rattle.std.proofs.Common.{◌≡◌, ℕ, ◌-◌, ◌≤◌, List, [], Some, Ok, Err, Result, sym, refl, ap, ◌∙◌, subst, arith}
+use Rattle.std.proofs.Common.{◌≡◌, ℕ, ◌-◌, ◌≤◌, List, [], Some, Ok, Err, Result, sym, refl, ap, ◌∙◌, subst, arith, Option}
 use Rattle.parser.specs.Meaning.{Meaning}
 use Rattle.parser.specs.Sets.{Lists}
 use Rattle.sheet.specs.declared.fault.Reason.{Reason}
@@ -26,11 +26,11 @@ pub took_none : (m : Meaning) → Took [] m m
 took_none m = record { language = λ w. (λ x. x, λ x. x); reach = refl; remainder = λ w. (λ x. x, λ x. x); left = omega arith }
 
 -- nothing was written before, so all is left
-from_start : {R : Lists} {left : ℕ} {ks : List ℕ} {m : Mark} {c : Coming} {o : Result Laid Reason} → Runs R [] left ks m c o → Runs R [] (left - 0) ks m c o
+from_start : {R : Lists} {left : ℕ} {ks : List ℕ} {m : Option Mark} {c : Coming} {o : Result Laid Reason} → Runs R [] left ks m c o → Runs R [] (left - 0) ks m c o
 from_start {R} {left} {ks} {m} {c} {o} r = let all : left ≡ left - 0 = omega arith in subst (λ n. Runs R [] n ks m c o) all r
 
 -- what is accepted leaves contexts that can be kept
-pub moves_sound : {P : Type 0} (r : Resolver P) (m : Mark) (c : Coming) (free : ℕ) (before now : Meaning) (d : Draft) → Moves r.contexts (stack r.contexts r.depth) m c free before now (Ok d) → Sound (contexts_of r.contexts d) × (d.depth ≤ r.depth)
+pub moves_sound : {P : Type 0} (r : Resolver P) (m : Option Mark) (c : Coming) (free : ℕ) (before now : Meaning) (d : Draft) → Moves r.contexts (stack r.contexts r.depth) m c free before now (Ok d) → Sound (contexts_of r.contexts d) × (d.depth ≤ r.depth)
 moves_sound r m c free before now d (Moves.accepted x (Tries.fits run w f) tokens contexts shallow took) =
     (subst Sound contexts (runs_sound run (record { rising = r.rising; few = omega (arith, length_stack r.contexts r.depth, r.shallow) })), omega (arith, length_stack r.contexts r.depth))
 

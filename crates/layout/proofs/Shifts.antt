@@ -1,5 +1,5 @@
 -- What is viable where a parser stands is what is viable after the kinds that it took. Assumes nothing.
-use Rattle.std.proofs.Common.{ℕ, List, [], ◌∷◌, ◌++◌, length, Result, sym, subst}
+use Rattle.std.proofs.Common.{ℕ, List, [], ◌∷◌, ◌++◌, length, Result, sym, subst, Option}
 use Rattle.std.proofs.lemmas.List.{append_assoc, append-nil}
 use Rattle.parser.specs.Sets.{Lists, Same}
 use Rattle.sheet.specs.declared.fault.Reason.{Reason}
@@ -25,7 +25,7 @@ module _ (A R : Lists) (u : List ℕ) (same : Same A (λ w. R (u ++ w))) where
   must_from v t [] m = elim m [ ]
   must_from v t (k ∷ ks) m = (m.0, λ x. m.1 (viable_to v t x), viable_from v 4 m.2)
 
-  applies_on : (v : List ℕ) {m : Mark} {c : Coming} {ks : List ℕ} {r : Rule} → Applies A v m c ks r → Applies R (u ++ v) m c ks r
+  applies_on : (v : List ℕ) {m : Option Mark} {c : Coming} {ks : List ℕ} {r : Rule} → Applies A v m c ks r → Applies R (u ++ v) m c ks r
   applies_on v (separate e) = separate e
   applies_on v (close_shallower h) = close_shallower h
   applies_on v (drop_deeper h) = drop_deeper h
@@ -42,7 +42,7 @@ module _ (A R : Lists) (u : List ℕ) (same : Same A (λ w. R (u ++ w))) where
   applies_on v (block_left_open e) = block_left_open e
 
   -- the rule that applies where the parser stands applies after the kinds that it took
-  pub applies_at : {m : Mark} {c : Coming} {ks : List ℕ} {r : Rule} → Applies A [] m c ks r → Applies R u m c ks r
+  pub applies_at : {m : Option Mark} {c : Coming} {ks : List ℕ} {r : Rule} → Applies A [] m c ks r → Applies R u m c ks r
   applies_at {m} {c} {ks} {r} a = subst (λ v. Applies R v m c ks r) (append-nil u) (applies_on [] a)
 
   goes_on : (depth : ℕ) {v : List ℕ} {left : ℕ} {w : List ℕ} {o : Result ℕ Reason} → Goes A depth v left w o → Goes R depth (u ++ v) left w o
@@ -56,7 +56,7 @@ module _ (A R : Lists) (u : List ℕ) (same : Same A (λ w. R (u ++ w))) where
   pub goes_at : (depth : ℕ) {left : ℕ} {w : List ℕ} {o : Result ℕ Reason} → Goes A depth [] left w o → Goes R depth u left w o
   goes_at depth {left} {w} {o} g = subst (λ v. Goes R depth v left w o) (append-nil u) (goes_on depth g)
 
-  pub runs_on : {v : List ℕ} {left : ℕ} {ks : List ℕ} {m : Mark} {c : Coming} {o : Result Laid Reason} → Runs A v left ks m c o → Runs R (u ++ v) left ks m c o
+  pub runs_on : {v : List ℕ} {left : ℕ} {ks : List ℕ} {m : Option Mark} {c : Coming} {o : Result Laid Reason} → Runs A v left ks m c o → Runs R (u ++ v) left ks m c o
   runs_on (Runs.goes_on {u = v} {ks = ks} {left' = n} {m' = m} {c = c} {r = r} {o = o} a e g rest) =
       Runs.goes_on (applies_on v a) e (goes_on (length ks) g) (subst (λ z. Runs R z n (leaves r (column c) ks) m c o) (sym (append_assoc u v (inserts r))) (runs_on rest))
   runs_on (Runs.stops {u = v} {ks = ks} a e g) = Runs.stops (applies_on v a) e (goes_on (length ks) g)
@@ -66,5 +66,5 @@ module _ (A R : Lists) (u : List ℕ) (same : Same A (λ w. R (u ++ w))) where
   runs_on (Runs.ends {u = v} a e) = Runs.ends (applies_on v a) e
 
   -- and so do the rules over what comes
-  pub runs_at : {left : ℕ} {ks : List ℕ} {m : Mark} {c : Coming} {o : Result Laid Reason} → Runs A [] left ks m c o → Runs R u left ks m c o
+  pub runs_at : {left : ℕ} {ks : List ℕ} {m : Option Mark} {c : Coming} {o : Result Laid Reason} → Runs A [] left ks m c o → Runs R u left ks m c o
   runs_at {left} {ks} {m} {c} {o} r = subst (λ v. Runs R v left ks m c o) (append-nil u) (runs_on r)

@@ -1,5 +1,5 @@
 -- The rules are single-valued: where two apply, they are one. Assumes nothing.
-use Rattle.std.proofs.Common.{◌≡◌, ℕ, List, ◌++◌, map, sym, refl, ap, ◌∙◌, subst, arith}
+use Rattle.std.proofs.Common.{◌≡◌, ℕ, List, ◌++◌, map, sym, refl, ap, ◌∙◌, subst, arith, Option}
 use Rattle.parser.specs.Sets.{Lists}
 use Rattle.sheet.specs.declared.lexeme.Lexeme.{Lexeme}
 use Rattle.sheet.specs.declared.lexeme.Place.{Place}
@@ -16,7 +16,7 @@ use Rattle.layout.specs.declared.rule.Rule.{Rule}
 
 module _ (G : Lists) (u : List ℕ) where
   -- one rule at most applies
-  pub single_rule : {m : Mark} {c : Coming} {ks : List ℕ} {r s : Rule} → Applies G u m c ks r → Applies G u m c ks s → r ≡ s
+  pub single_rule : {m : Option Mark} {c : Coming} {ks : List ℕ} {r s : Rule} → Applies G u m c ks r → Applies G u m c ks s → r ≡ s
   single_rule (separate e) (separate e') = refl
   single_rule (separate e) (close_shallower h') = absurd (omega arith)
   single_rule (separate e) (drop_deeper h') = absurd (omega arith)
@@ -69,7 +69,7 @@ way lexeme_written = 1
 way ended = 2
 way undefined = 3
 
-abbrev pub mark_in : Onward → Mark → Mark
+abbrev pub mark_in : Onward → Option Mark → Option Mark
 mark_in (at_mark m) d = m
 mark_in lexeme_written d = d
 mark_in ended d = d
@@ -77,11 +77,11 @@ mark_in undefined d = d
 
 module _ (G : Lists) where
   -- one outcome at most at a lexeme or at the end
-  pub single_step : {u ks : List ℕ} {m : Mark} {c : Coming} {out out' : List Token} {ls ls' : List ℕ} → Lays G u ks m c out ls → Lays G u ks m c out' ls' → (out ≡ out') × (ls ≡ ls')
+  pub single_step : {u ks : List ℕ} {m : Option Mark} {c : Coming} {out out' : List Token} {ls ls' : List ℕ} → Lays G u ks m c out ls → Lays G u ks m c out' ls' → (out ≡ out') × (ls ≡ ls')
   single_step {u} {ks} {m} {c} (goes_on {m' = n} {r = r} a e rest) (goes_on {m' = n'} {r = s} {out = out'} {ks' = ls'} b f more) =
       let same = single_rule G u a b in
       let marks : n' ≡ n = ap (λ o. mark_in o m) (sym f ∙ ap onward (sym same) ∙ e) in
-      let moved = subst (λ (x : Mark). Lays G (u ++ inserts r) (leaves r (column c) ks) x c out' ls') marks
+      let moved = subst (λ (x : Option Mark). Lays G (u ++ inserts r) (leaves r (column c) ks) x c out' ls') marks
       (subst (λ (x : Rule). Lays G (u ++ inserts x) (leaves x (column c) ks) n' c out' ls') (sym same) more) in
       let both = single_step rest moved in
       (ap (λ x. map (inserted c) (inserts r) ++ x) both.0 ∙ ap (λ x. map (inserted c) (inserts x) ++ out') same, both.1)

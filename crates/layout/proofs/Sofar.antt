@@ -1,5 +1,5 @@
 -- The rules lexeme by lexeme agree with the rules over the whole sheet. Assumes nothing.
-use Rattle.std.proofs.Common.{◌≡◌, ℕ, true, ◌⊎◌, List, [], ◌∷◌, ◌++◌, map, length, is_ok, Ok, Err, Result, sym, refl, ap, ◌∙◌, subst, inl, inr, arith}
+use Rattle.std.proofs.Common.{◌≡◌, ℕ, true, ◌⊎◌, List, [], ◌∷◌, ◌++◌, map, length, is_ok, Ok, Err, Result, sym, refl, ap, ◌∙◌, subst, inl, inr, arith, Option}
 use Rattle.std.proofs.lemmas.List.{append_assoc, map-append}
 use Rattle.std.proofs.lemmas.Bool.{false≢true, true≢false}
 use Rattle.parser.specs.Sets.{Lists}
@@ -44,7 +44,7 @@ regroup u w p out = ap (λ x. u ++ x) (map-append (λ (t : Token). t.kind) (map 
 
 module _ (G : Lists) where
   -- a run inside the limits is one of the rules
-  pub runs_lays : {u : List ℕ} {left : ℕ} {ks : List ℕ} {m : Mark} {c : Coming} {o : Result Laid Reason} → Runs G u left ks m c o → is_ok o ≡ true → Lays G u ks m c (tokens_in o) (contexts_in o)
+  pub runs_lays : {u : List ℕ} {left : ℕ} {ks : List ℕ} {m : Option Mark} {c : Coming} {o : Result Laid Reason} → Runs G u left ks m c o → is_ok o ≡ true → Lays G u ks m c (tokens_in o) (contexts_in o)
   runs_lays {u} {left} {ks} {m} {c} (Runs.goes_on {m' = x} {r = r} {o = o} a e g rest) ok = go o (runs_lays rest) ok
     where
       go : (p : Result Laid Reason) → (is_ok p ≡ true → Lays G (u ++ inserts r) (leaves r (column c) ks) x c (tokens_in p) (contexts_in p)) → is_ok (and_before (map (inserted c) (inserts r)) p) ≡ true
@@ -101,7 +101,7 @@ module _ (G : Lists) where
   goes_limited v (Goes.reach_spent room x) s = inr refl
 
   -- where the rules end in a sentence, only a limit stops them
-  pub end_limited : {u : List ℕ} {left : ℕ} {ks : List ℕ} {m : Mark} {p : Place} {out : List Token} {ls : List ℕ} {o : Result Laid Reason} (why : Reason) → Lays G u ks m (ending p) out ls → Runs G u left ks m (ending p) o → o ≡ Err why → G (u ++ kinds out) → (why ≡ TooDeep) ⊎ (why ≡ ReachSpent)
+  pub end_limited : {u : List ℕ} {left : ℕ} {ks : List ℕ} {m : Option Mark} {p : Place} {out : List Token} {ls : List ℕ} {o : Result Laid Reason} (why : Reason) → Lays G u ks m (ending p) out ls → Runs G u left ks m (ending p) o → o ≡ Err why → G (u ++ kinds out) → (why ≡ TooDeep) ⊎ (why ≡ ReachSpent)
   end_limited {u} {left} {ks} {m} {p} why (Lays.goes_on {m' = x} {r = r} {out = out} a e rest) (Runs.goes_on {left' = n} {m' = x'} {r = r'} {o = o} a' e' g more) is s =
       let same = single_rule G u a a' in
       let marks : x' ≡ x = ap (λ w. mark_in w m) (sym e' ∙ ap onward (sym same) ∙ e) in

@@ -1,5 +1,5 @@
 -- A run on a resolver is a run of the service over its parser's language. Assumes nothing.
-use Rattle.std.proofs.Common.{◌≡◌, ℕ, ◌-◌, List, [], ◌++◌, length, Result, sym, refl, ap, ◌∙◌, subst, arith, length-append}
+use Rattle.std.proofs.Common.{◌≡◌, ℕ, ◌-◌, List, [], ◌++◌, length, Result, sym, refl, ap, ◌∙◌, subst, arith, length-append, Option}
 use Rattle.std.proofs.lemmas.List.{append_assoc, append-nil}
 use Rattle.parser.specs.Meaning.{Meaning, started}
 use Rattle.parser.specs.Sets.{Lists, Same}
@@ -42,7 +42,7 @@ pub record Shifted (G : Lists) (reach : ℕ) (s : State) (c : Call) (a : Answer)
 
 module _ (G R : Lists) (reach left : ℕ) (s : State) (same : Same R (λ w. G (s.written ++ w))) (all : left ≡ reach - length s.written) where
   -- the rules from there
-  runs_there : {ks : List ℕ} {m : Mark} {c : Coming} {o : Result Laid Reason} → Runs R [] (left - 0) ks m c o → Runs G s.written (reach - length s.written) ks m c o
+  runs_there : {ks : List ℕ} {m : Option Mark} {c : Coming} {o : Result Laid Reason} → Runs R [] (left - 0) ks m c o → Runs G s.written (reach - length s.written) ks m c o
   runs_there {ks} {m} {c} {o} r = let n : left - 0 ≡ reach - length s.written = omega arith in subst (λ k. Runs G s.written k ks m c o) n (runs_at R G s.written same r)
 
   feed_there : {t : ℕ} {l : Lexeme} {free : ℕ} {why : Reason} → FeedFails R left (anew s) t l free why → FeedFails G reach s t l free why

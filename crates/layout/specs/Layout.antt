@@ -1,5 +1,5 @@
 -- The rules over a lexeme, and over a whole sheet. Assumes nothing.
-use Rattle.std.specs.Prelude.{◌≡◌, ℕ, List, [], ◌∷◌, ◌++◌, map}
+use Rattle.std.specs.Prelude.{◌≡◌, ℕ, List, [], ◌∷◌, ◌++◌, map, Option}
 use Rattle.parser.specs.Sets.{Lists}
 use Rattle.sheet.specs.declared.lexeme.Lexeme.{Lexeme}
 use Rattle.sheet.specs.declared.lexeme.Place.{Place}
@@ -20,11 +20,11 @@ abbrev pub kinds : List Token → List ℕ
 kinds ts = map (λ (t : Token). t.kind) ts
 
 -- the rules over one lexeme, or over the end: from the kinds u, the contexts ks and a mark to the tokens that they write and the contexts that they leave
-pub data Lays (G : Lists) : List ℕ → List ℕ → Mark → Coming → List Token → List ℕ → Type 0 where
-  goes_on : {u ks : List ℕ} {m m' : Mark} {c : Coming} {r : Rule} {out : List Token} {ks' : List ℕ} → Applies G u m c ks r → onward r ≡ at_mark m'
+pub data Lays (G : Lists) : List ℕ → List ℕ → Option Mark → Coming → List Token → List ℕ → Type 0 where
+  goes_on : {u ks : List ℕ} {m m' : Option Mark} {c : Coming} {r : Rule} {out : List Token} {ks' : List ℕ} → Applies G u m c ks r → onward r ≡ at_mark m'
       → Lays G (u ++ inserts r) (leaves r (column c) ks) m' c out ks' → Lays G u ks m c (map (inserted c) (inserts r) ++ out) ks'
-  writes : {u ks : List ℕ} {m : Mark} {l : Lexeme} {r : Rule} → Applies G u m (lexeme l) ks r → onward r ≡ lexeme_written → Lays G u ks m (lexeme l) (written l ∷ []) (leaves r l.column ks)
-  ends : {u ks : List ℕ} {m : Mark} {p : Place} {r : Rule} → Applies G u m (ending p) ks r → onward r ≡ ended → Lays G u ks m (ending p) [] ks
+  writes : {u ks : List ℕ} {m : Option Mark} {l : Lexeme} {r : Rule} → Applies G u m (lexeme l) ks r → onward r ≡ lexeme_written → Lays G u ks m (lexeme l) (written l ∷ []) (leaves r l.column ks)
+  ends : {u ks : List ℕ} {m : Option Mark} {p : Place} {r : Rule} → Applies G u m (ending p) ks r → onward r ≡ ended → Lays G u ks m (ending p) [] ks
 
 -- the rules over the rest of a sheet, to its end
 pub data Resolves (G : Lists) : List ℕ → List ℕ → Before → List Lexeme → Place → List Token → Type 0 where

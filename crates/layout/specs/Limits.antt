@@ -1,5 +1,5 @@
 -- The rules inside the limits of a call: what stops them before a token. Assumes nothing.
-use Rattle.std.specs.Prelude.{◌≡◌, ℕ, suc, ◌<◌, List, [], ◌∷◌, ◌++◌, map, length, Ok, Err, Result}
+use Rattle.std.specs.Prelude.{◌≡◌, ℕ, suc, ◌<◌, List, [], ◌∷◌, ◌++◌, map, length, Ok, Err, Result, Option}
 use Rattle.parser.specs.Sets.{Lists}
 use Rattle.sheet.specs.declared.fault.Reason.{Reason}
 use Rattle.sheet.specs.declared.fault.Reason.TheVariants.{StrayClose, TooDeep, NotViable, ReachSpent, BlockOpen}
@@ -43,14 +43,14 @@ and_before ts (Ok x) = Ok (record { tokens = ts ++ x.tokens; contexts = x.contex
 and_before ts (Err why) = Err why
 
 -- the rules over one lexeme or over the end, up to what stops them first
-pub data Runs (R : Lists) : List ℕ → ℕ → List ℕ → Mark → Coming → Result Laid Reason → Type 0 where
-  goes_on : {u ks : List ℕ} {left left' : ℕ} {m m' : Mark} {c : Coming} {r : Rule} {o : Result Laid Reason} → Applies R u m c ks r → onward r ≡ at_mark m'
+pub data Runs (R : Lists) : List ℕ → ℕ → List ℕ → Option Mark → Coming → Result Laid Reason → Type 0 where
+  goes_on : {u ks : List ℕ} {left left' : ℕ} {m m' : Option Mark} {c : Coming} {r : Rule} {o : Result Laid Reason} → Applies R u m c ks r → onward r ≡ at_mark m'
       → Goes R (length ks) u left (inserts r) (Ok left') → Runs R (u ++ inserts r) left' (leaves r (column c) ks) m' c o → Runs R u left ks m c (and_before (map (inserted c) (inserts r)) o)
-  stops : {u ks : List ℕ} {left : ℕ} {m m' : Mark} {c : Coming} {r : Rule} {why : Reason} → Applies R u m c ks r → onward r ≡ at_mark m'
+  stops : {u ks : List ℕ} {left : ℕ} {m m' : Option Mark} {c : Coming} {r : Rule} {why : Reason} → Applies R u m c ks r → onward r ≡ at_mark m'
       → Goes R (length ks) u left (inserts r) (Err why) → Runs R u left ks m c (Err why)
-  writes : {u ks : List ℕ} {left left' : ℕ} {m : Mark} {l : Lexeme} {r : Rule} → Applies R u m (lexeme l) ks r → onward r ≡ lexeme_written
+  writes : {u ks : List ℕ} {left left' : ℕ} {m : Option Mark} {l : Lexeme} {r : Rule} → Applies R u m (lexeme l) ks r → onward r ≡ lexeme_written
       → Goes R (length ks) u left (l.kind ∷ []) (Ok left') → Runs R u left ks m (lexeme l) (Ok (record { tokens = written l ∷ []; contexts = leaves r l.column ks }))
-  refuses : {u ks : List ℕ} {left : ℕ} {m : Mark} {l : Lexeme} {r : Rule} {why : Reason} → Applies R u m (lexeme l) ks r → onward r ≡ lexeme_written
+  refuses : {u ks : List ℕ} {left : ℕ} {m : Option Mark} {l : Lexeme} {r : Rule} {why : Reason} → Applies R u m (lexeme l) ks r → onward r ≡ lexeme_written
       → Goes R (length ks) u left (l.kind ∷ []) (Err why) → Runs R u left ks m (lexeme l) (Err why)
-  is_undefined : {u ks : List ℕ} {left : ℕ} {m : Mark} {c : Coming} {r : Rule} → Applies R u m c ks r → onward r ≡ undefined → Runs R u left ks m c (Err (undefined_at c))
-  ends : {u ks : List ℕ} {left : ℕ} {m : Mark} {p : Place} {r : Rule} → Applies R u m (ending p) ks r → onward r ≡ ended → Runs R u left ks m (ending p) (Ok (record { tokens = []; contexts = ks }))
+  is_undefined : {u ks : List ℕ} {left : ℕ} {m : Option Mark} {c : Coming} {r : Rule} → Applies R u m c ks r → onward r ≡ undefined → Runs R u left ks m c (Err (undefined_at c))
+  ends : {u ks : List ℕ} {left : ℕ} {m : Option Mark} {p : Place} {r : Rule} → Applies R u m (ending p) ks r → onward r ≡ ended → Runs R u left ks m (ending p) (Ok (record { tokens = []; contexts = ks }))

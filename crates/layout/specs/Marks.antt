@@ -1,5 +1,5 @@
 -- What comes next in a sheet, and the mark before it. Assumes nothing.
-use Rattle.std.specs.Prelude.{◌≡◌, ℕ, Bool, true, false, cond, ◌||◌, ◌==◌}
+use Rattle.std.specs.Prelude.{◌≡◌, ℕ, Bool, true, false, cond, ◌||◌, ◌==◌, None, Option, Some}
 use Rattle.sheet.specs.declared.lexeme.Lexeme.{Lexeme}
 use Rattle.sheet.specs.declared.lexeme.Token.{Token}
 use Rattle.layout.specs.declared.rule.Before.{Before}
@@ -7,7 +7,7 @@ use Rattle.layout.specs.declared.rule.Before.TheVariants.{Nothing, BlockKeyword,
 use Rattle.layout.specs.declared.rule.Coming.{Coming}
 use Rattle.layout.specs.declared.rule.Coming.TheVariants.{Lexeme as lexeme, End as ending}
 use Rattle.layout.specs.declared.rule.Mark.{Mark}
-use Rattle.layout.specs.declared.rule.Mark.TheVariants.{None, Line, Block}
+use Rattle.layout.specs.declared.rule.Mark.TheVariants.{Line, Block}
 
 -- the column by which the rules go: at the end it is 0
 abbrev pub column : Coming → ℕ
@@ -28,20 +28,20 @@ abbrev pub after : ℕ → Before
 after k = cond (opens_block k) BlockKeyword Other
 
 -- the mark of a line, if the flag is set
-abbrev pub line_mark : Bool → Mark
-line_mark true = Line
+abbrev pub line_mark : Bool → Option Mark
+line_mark true = Some Line
 line_mark false = None
 
 -- the mark before a lexeme: a block is due before the first lexeme and after a block keyword, unless the lexeme is {
-abbrev pub mark_of : Before → Lexeme → Mark
-mark_of Nothing l = cond (l.kind == 3) (line_mark l.first) Block
-mark_of BlockKeyword l = cond (l.kind == 3) None Block
+abbrev pub mark_of : Before → Lexeme → Option Mark
+mark_of Nothing l = cond (l.kind == 3) (line_mark l.first) (Some Block)
+mark_of BlockKeyword l = cond (l.kind == 3) None (Some Block)
 mark_of Other l = line_mark l.first
 
 -- the mark before the end
-abbrev pub end_mark : Before → Mark
-end_mark Nothing = Block
-end_mark BlockKeyword = Block
+abbrev pub end_mark : Before → Option Mark
+end_mark Nothing = Some Block
+end_mark BlockKeyword = Some Block
 end_mark Other = None
 
 -- whether the end comes
@@ -55,7 +55,7 @@ kind (lexeme l) = l.kind
 kind (ending p) = 0
 
 -- no block is due before a {
-abbrev pub Fitting : Mark → Coming → Type 0
+abbrev pub Fitting : Option Mark → Coming → Type 0
 Fitting None c = Unit {0}
-Fitting Line c = Unit {0}
-Fitting Block c = kind c ≡ 3 → ⊥
+Fitting (Some Line) c = Unit {0}
+Fitting (Some Block) c = kind c ≡ 3 → ⊥

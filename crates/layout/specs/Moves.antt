@@ -1,5 +1,5 @@
 -- What a call does to the parser, as the code has it: it takes the tokens, or all is as before. Assumes nothing.
-use Rattle.std.specs.Prelude.{◌≡◌, ℕ, ◌-◌, ◌<◌, ◌≤◌, List, [], ◌++◌, length, Ok, Err, Result}
+use Rattle.std.specs.Prelude.{◌≡◌, ℕ, ◌-◌, ◌<◌, ◌≤◌, List, [], ◌++◌, length, Ok, Err, Result, Option}
 use Rattle.parser.specs.Meaning.{Alike, Meaning}
 use Rattle.parser.specs.Runs.{after as after_kinds}
 use Rattle.parser.specs.Sets.{Lists, Same}
@@ -32,20 +32,20 @@ WholeAt R (lexeme l) = Unit {0}
 WholeAt R (ending p) = R []
 
 -- the rules over what comes, with all that may refuse it: what they leave, or why it is refused
-pub data Tries (R : Lists) (left : ℕ) (ks : List ℕ) (m : Mark) (c : Coming) (free : ℕ) : Result Laid Reason → Type 0 where
+pub data Tries (R : Lists) (left : ℕ) (ks : List ℕ) (m : Option Mark) (c : Coming) (free : ℕ) : Result Laid Reason → Type 0 where
   fits : {x : Laid} → Runs R [] left ks m c (Ok x) → Whole R c x → length x.tokens ≤ free → Tries R left ks m c free (Ok x)
   stopped : {why : Reason} → Runs R [] left ks m c (Err why) → Tries R left ks m c free (Err why)
   not_whole : {x : Laid} → Runs R [] left ks m c (Ok x) → (Whole R c x → ⊥) → Tries R left ks m c free (Err NotComplete)
   no_room : {x : Laid} → Runs R [] left ks m c (Ok x) → Whole R c x → free < length x.tokens → Tries R left ks m c free (Err NoRoom)
 
 -- a draft of what is accepted, with the parser moved on, or why it is refused, with the parser as before
-pub data Moves (cs ks : List ℕ) (m : Mark) (c : Coming) (free : ℕ) (before after : Meaning) : Result Draft Reason → Type 0 where
+pub data Moves (cs ks : List ℕ) (m : Option Mark) (c : Coming) (free : ℕ) (before after : Meaning) : Result Draft Reason → Type 0 where
   accepted : {d : Draft} → (x : Laid) → Tries before.remainder before.left ks m c free (Ok x) → x.tokens ≡ drafted_tokens c d → x.contexts ≡ contexts_of cs d → d.depth ≤ length ks
       → Took (kinds x.tokens) before after → Moves cs ks m c free before after (Ok d)
   refused : {why : Reason} → Tries before.remainder before.left ks m c free (Err why) → Took [] before after → Moves cs ks m c free before after (Err why)
 
 -- the same while the parser is still marked: a refusal may leave it moved
-pub data Attempts (cs ks : List ℕ) (m : Mark) (c : Coming) (free : ℕ) (before after : Meaning) : Result Draft Reason → Type 0 where
+pub data Attempts (cs ks : List ℕ) (m : Option Mark) (c : Coming) (free : ℕ) (before after : Meaning) : Result Draft Reason → Type 0 where
   accepted : {d : Draft} → (x : Laid) → Tries before.remainder before.left ks m c free (Ok x) → x.tokens ≡ drafted_tokens c d → x.contexts ≡ contexts_of cs d → d.depth ≤ length ks
       → Alike after (after_kinds (kinds x.tokens) before) → Attempts cs ks m c free before after (Ok d)
   refused : {why : Reason} → Tries before.remainder before.left ks m c free (Err why) → Bound after before → Attempts cs ks m c free before after (Err why)

@@ -1,5 +1,5 @@
 -- Which rule comes first, and what each rule does. A context is the column of an implicit block, or 0 for an explicit one. Assumes nothing.
-use Rattle.std.specs.Prelude.{◌≡◌, ℕ, ◌<◌, Bool, true, false, List, [], ◌∷◌, ◌++◌, map, ◌≢◌}
+use Rattle.std.specs.Prelude.{◌≡◌, ℕ, ◌<◌, Bool, true, false, List, [], ◌∷◌, ◌++◌, map, ◌≢◌, None, Option, Some}
 use Rattle.parser.specs.Sets.{Lists, Begins}
 use Rattle.sheet.specs.declared.lexeme.Lexeme.{Lexeme}
 use Rattle.sheet.specs.declared.lexeme.Place.{Place}
@@ -9,7 +9,7 @@ use Rattle.layout.specs.declared.rule.Coming.TheVariants.{Lexeme as lexeme, End 
 use Rattle.layout.specs.declared.rule.Insert.{Insert}
 use Rattle.layout.specs.declared.rule.Insert.TheVariants.{Open, Close, Separator}
 use Rattle.layout.specs.declared.rule.Mark.{Mark}
-use Rattle.layout.specs.declared.rule.Mark.TheVariants.{None, Line, Block}
+use Rattle.layout.specs.declared.rule.Mark.TheVariants.{Line, Block}
 use Rattle.layout.specs.declared.rule.Onward.{Onward}
 use Rattle.layout.specs.declared.rule.Onward.TheVariants.{Mark as at_mark, Lexeme as lexeme_written, End as ended, Undefined as undefined}
 use Rattle.layout.specs.declared.rule.Rule.{Rule}
@@ -39,13 +39,13 @@ Explicit [] = ⊥
 Explicit (k ∷ ks) = k ≡ 0
 
 -- the rule that applies at a mark, after the kinds u, in the contexts ks
-pub data Applies (G : Lists) (u : List ℕ) : Mark → Coming → List ℕ → Rule → Type 0 where
-  separate : {c : Coming} {k : ℕ} {ks : List ℕ} → k ≡ column c → Applies G u Line c (k ∷ ks) Separate
-  close_shallower : {c : Coming} {k : ℕ} {ks : List ℕ} → column c < k → Applies G u Line c (k ∷ ks) CloseShallower
-  drop_deeper : {c : Coming} {k : ℕ} {ks : List ℕ} → k < column c → Applies G u Line c (k ∷ ks) DropMark
-  drop_outside : {c : Coming} → Applies G u Line c [] DropMark
-  open_block : {c : Coming} {ks : List ℕ} → Deeper (column c) ks → Applies G u Block c ks OpenBlock
-  empty_block : {c : Coming} {ks : List ℕ} → (Deeper (column c) ks → ⊥) → Applies G u Block c ks EmptyBlock
+pub data Applies (G : Lists) (u : List ℕ) : Option Mark → Coming → List ℕ → Rule → Type 0 where
+  separate : {c : Coming} {k : ℕ} {ks : List ℕ} → k ≡ column c → Applies G u (Some Line) c (k ∷ ks) Separate
+  close_shallower : {c : Coming} {k : ℕ} {ks : List ℕ} → column c < k → Applies G u (Some Line) c (k ∷ ks) CloseShallower
+  drop_deeper : {c : Coming} {k : ℕ} {ks : List ℕ} → k < column c → Applies G u (Some Line) c (k ∷ ks) DropMark
+  drop_outside : {c : Coming} → Applies G u (Some Line) c [] DropMark
+  open_block : {c : Coming} {ks : List ℕ} → Deeper (column c) ks → Applies G u (Some Block) c ks OpenBlock
+  empty_block : {c : Coming} {ks : List ℕ} → (Deeper (column c) ks → ⊥) → Applies G u (Some Block) c ks EmptyBlock
   close_typed : {l : Lexeme} {ks : List ℕ} → l.kind ≡ 4 → Explicit ks → Applies G u None (lexeme l) ks CloseTyped
   stray_close : {l : Lexeme} {ks : List ℕ} → l.kind ≡ 4 → (Explicit ks → ⊥) → Applies G u None (lexeme l) ks StrayClose
   open_typed : {l : Lexeme} {ks : List ℕ} → l.kind ≡ 3 → Applies G u None (lexeme l) ks OpenTyped
@@ -105,10 +105,10 @@ leaves BlockLeftOpen n ks = ks
 -- how it goes on: at another mark before the same, with the lexeme written, with the end reached, or not at all
 abbrev pub onward : Rule → Onward
 onward Separate = at_mark None
-onward CloseShallower = at_mark Line
+onward CloseShallower = at_mark (Some Line)
 onward DropMark = at_mark None
 onward OpenBlock = at_mark None
-onward EmptyBlock = at_mark Line
+onward EmptyBlock = at_mark (Some Line)
 onward CloseTyped = lexeme_written
 onward StrayClose = undefined
 onward OpenTyped = lexeme_written

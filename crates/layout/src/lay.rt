@@ -40,7 +40,7 @@ pub fn lay<P: Stepping>(
     contexts: &[u32],
     depth: usize,
     coming: &Coming,
-    mark: Mark,
+    mark: Option<Mark>,
 ) -> Result<Draft, Reason>
     requires within { depth ≤ length contexts.now }
     requires shallow { depth ≤ 64 }

@@ -1,12 +1,11 @@
 // The rules by name, the marks that they work on, and which rule applies.
-ghost use Rattle.std.specs.Prelude.{◌≡◌, ℕ, List, [], Decides};
+ghost use Rattle.std.specs.Prelude.{◌≡◌, ℕ, List, [], Decides, None as none};
 ghost use Rattle.layout.specs.Layout.{SingleValued};
 ghost use Rattle.layout.specs.Marks.{after, column, end_mark, is_end, mark_of};
 ghost use Rattle.layout.specs.First.{block_rule, close_rule, end_rule, innermost_of, line_rule};
 ghost use Rattle.sheet.specs.Kinds.{kind_number};
 ghost use Rattle.sheet.specs.declared.lexeme.Lexeme.{Lexeme as Typed};
 ghost use Rattle.layout.specs.declared.rule.Coming.TheVariants.{Lexeme as lexeme};
-ghost use Rattle.layout.specs.declared.rule.Mark.TheVariants.{None as none};
 ghost use Rattle.layout.specs.declared.rule.Rule.{Rule};
 ghost use Rattle.layout.specs.Rules.{Applies, MustClose, insert_kind, inserting, onward};
 
@@ -21,10 +20,9 @@ pub enum Before {
     Other,
 }
 
-// The mark before a lexeme or before the end: none, that it begins a line, or that a block is due.
+// A mark before a lexeme or before the end: that it begins a line, or that a block is due.
 #[derive(Clone, Copy, Debug, PartialEq, Eq)]
 pub enum Mark {
-    None,
     Line,
     Block,
 }
@@ -67,11 +65,11 @@ pub enum Insert {
     Separator,
 }
 
-// How it goes on after a rule: at another mark before the same, with the lexeme written, with the end reached, or not
+// How it goes on after a rule: at another mark before the same or at none, with the lexeme written, with the end reached, or not
 // at all.
 #[derive(Clone, Copy, Debug, PartialEq, Eq)]
 pub enum Onward {
-    Mark(Mark),
+    Mark(Option<Mark>),
     Lexeme,
     End,
     Undefined,
@@ -88,34 +86,27 @@ impl Before {
         }
     }
 
-    // The mark before a lexeme.
-    pub fn mark_of(self, lexeme: &Lexeme) -> Mark
+    // The mark before a lexeme, if any.
+    pub fn mark_of(self, lexeme: &Lexeme) -> Option<Mark>
         ensures value { result ≡ mark_of self lexeme.now }
     {
         let open = lexeme.kind == Kind::OpenBrace.number();
         match self {
-            Before::BlockKeyword if open => Mark::None,
-            Before::Nothing | Before::BlockKeyword if !open => Mark::Block,
-            _ => { if lexeme.first { Mark::Line } else { Mark::None } }
+            Before::BlockKeyword if open => None,
+            Before::Nothing | Before::BlockKeyword if !open => Some(Mark::Block),
+            _ if lexeme.first => Some(Mark::Line),
+            _ => None,
         }
     }
 
-    // The mark before the end.
-    pub fn end_mark(self) -> Mark
+    // The mark before the end, if any.
+    pub fn end_mark(self) -> Option<Mark>
         ensures { result ≡ end_mark self }
     {
         match self {
-            Before::Nothing | Before::BlockKeyword => Mark::Block,
-            Before::Other => Mark::None,
+            Before::Nothing | Before::BlockKeyword => Some(Mark::Block),
+            Before::Other => None,
         }
-    }
-}
-
-impl Mark {
-    pub fn is_none(self) -> bool
-        ensures { Decides result (self ≡ none) }
-    {
-        matches!(self, Mark::None)
     }
 }
 
@@ -138,12 +129,12 @@ impl Rule {
         ensures { result ≡ onward self }
     {
         match self {
-            Rule::CloseShallower | Rule::EmptyBlock => Onward::Mark(Mark::Line),
+            Rule::CloseShallower | Rule::EmptyBlock => Onward::Mark(Some(Mark::Line)),
             Rule::Separate
             | Rule::DropMark
             | Rule::OpenBlock
             | Rule::CloseOnError
-            | Rule::CloseAtEnd => Onward::Mark(Mark::None),
+            | Rule::CloseAtEnd => Onward::Mark(None),
             Rule::CloseTyped | Rule::OpenTyped | Rule::WriteLexeme => Onward::Lexeme,
             Rule::End => Onward::End,
             Rule::StrayClose | Rule::BlockLeftOpen => Onward::Undefined,
@@ -266,16 +257,21 @@ fn rule_at_lexeme<P: Probing>(parser: &P, kind: u32, innermost: Option<u32>) -> 
     }
 }
 
-// The rule that applies at a mark before what comes, where the parser stands.
-pub fn rule_at<P: Probing>(parser: &P, mark: Mark, coming: &Coming, innermost: Option<u32>) -> Rule
+// The rule that applies at a mark before what comes, or at none, where the parser stands.
+pub fn rule_at<P: Probing>(
+    parser: &P,
+    mark: Option<Mark>,
+    coming: &Coming,
+    innermost: Option<u32>,
+) -> Rule
     ensures applies { (ks : List ℕ) → innermost_of ks ≡ innermost → Applies (P.remainder parser.now) [] mark coming.now ks result }
     ensures only { (ks : List ℕ) (s : Rule) → innermost_of ks ≡ innermost → Applies (P.remainder parser.now) [] mark coming.now ks s → s ≡ result }
     ensures single { SingleValued (P.remainder parser.now) }
 {
     match mark {
-        Mark::Line => rule_at_line(coming.column(), innermost),
-        Mark::Block => rule_at_block(coming.column(), innermost),
-        Mark::None => match coming {
+        Some(Mark::Line) => rule_at_line(coming.column(), innermost),
+        Some(Mark::Block) => rule_at_block(coming.column(), innermost),
+        None => match coming {
             Coming::Lexeme(lexeme) => rule_at_lexeme(parser, lexeme.kind, innermost),
             Coming::End(_) => rule_at_end(innermost),
         },

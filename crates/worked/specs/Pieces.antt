@@ -8,7 +8,8 @@ use Rattle.sheet.specs.declared.lexeme.Place.{Place}
 use Rattle.sheet.specs.declared.lexeme.Token.{Token}
 use Rattle.table.specs.Level.{table_reach}
 use Rattle.layout.specs.Layout.{Turns, kinds}
-use Rattle.layout.specs.Marks.{inserted, written}
+use Rattle.sheet.specs.Tokens.{written}
+use Rattle.layout.specs.Marks.{inserted}
 use Rattle.layout.specs.Service.{Event, Run, State, new}
 use Rattle.layout.specs.declared.call.Answer.TheVariants.{Ticket as ticket, Count as count, Refused as refused}
 use Rattle.layout.specs.declared.call.Call.TheVariants.{Begin as begin, Feed as feed, Finish as finish}

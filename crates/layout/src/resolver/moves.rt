@@ -1,5 +1,5 @@
 // What comes is tried on the parser: the parser takes its tokens, or is as before.
-ghost use Rattle.std.specs.Prelude.{◌≡◌, ℕ, ◌≤◌, [], Decides, MatchOption};
+ghost use Rattle.std.specs.Prelude.{◌≡◌, ℕ, ◌≤◌, [], Decides, MatchOption, None as none};
 ghost use Rattle.parser.specs.Meaning.{SameMark, absent, meaning};
 ghost use Rattle.layout.specs.Contexts.{Implicit, stack};
 ghost use Rattle.layout.specs.Drafts.{alone};
@@ -7,7 +7,6 @@ ghost use Rattle.layout.specs.Marks.{Fitting};
 ghost use Rattle.layout.specs.Moves.{Attempts, Beside, Moves, Took, WholeAt};
 ghost use Rattle.layout.specs.Rules.{Plain};
 ghost use Rattle.layout.specs.declared.rule.Coming.TheVariants.{Lexeme as lexeme'};
-ghost use Rattle.layout.specs.declared.rule.Mark.TheVariants.{None as none};
 
 use super::Resolver;
 use crate::draft::Draft;
@@ -36,7 +35,7 @@ pub(super) fn is_plain(lexeme: &Lexeme) -> bool
 impl<P: Stepping> Resolver<P> {
     // The rules over what comes, with the parser asked on the way. The parser takes the tokens also where they are
     // refused later: the caller marks it before.
-    fn attempt(&mut self, coming: &Coming, mark: Mark, free: usize) -> Result<Draft, Reason>
+    fn attempt(&mut self, coming: &Coming, mark: Option<Mark>, free: usize) -> Result<Draft, Reason>
         requires { Fitting mark coming.now }
         ensures told { Attempts self.old.contexts (stack self.old.contexts self.old.depth) mark coming.now free (meaning P.Stepping self.old.parser) (meaning P.Stepping self.new.parser) result }
         ensures beside { Beside self.old self.new }
@@ -56,7 +55,7 @@ impl<P: Stepping> Resolver<P> {
     pub(super) fn advance(
         &mut self,
         coming: &Coming,
-        mark: Mark,
+        mark: Option<Mark>,
         free: usize,
     ) -> Result<Draft, Reason>
         requires { Fitting mark coming.now }

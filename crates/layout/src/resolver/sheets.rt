@@ -1,5 +1,5 @@
 // The open sheet: what is accepted of it, and how it is left where something is not.
-ghost use Rattle.std.specs.Prelude.{◌≡◌, ◌≤◌, true, [], length, is_some, Some, Decides, MatchOption};
+ghost use Rattle.std.specs.Prelude.{◌≡◌, ◌≤◌, true, [], length, is_some, Some, Decides, MatchOption, None as none};
 ghost use Rattle.parser.specs.Meaning.{meaning};
 ghost use Rattle.layout.specs.Calling.{Fed, Finished, shut, stand, standing};
 ghost use Rattle.layout.specs.Contexts.{rises, stack};
@@ -8,7 +8,6 @@ ghost use Rattle.layout.specs.Marks.{mark_of};
 ghost use Rattle.layout.specs.Moves.{Around, Took};
 ghost use Rattle.layout.specs.Rules.{Plain};
 ghost use Rattle.layout.specs.Service.{Good};
-ghost use Rattle.layout.specs.declared.rule.Mark.TheVariants.{None as none};
 
 use super::Resolver;
 use super::moves::is_plain;

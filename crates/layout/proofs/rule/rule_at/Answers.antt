@@ -1,19 +1,19 @@
-use Rattle.std.proofs.Common.{refl, ap, ◌∙◌}
+use Rattle.std.proofs.Common.{refl, rules, ap, ◌∙◌}
 use Rattle.layout.specs.First.{block_rule, line_rule}
 use Rattle.layout.proofs.Firsts.{alone_at_block, alone_at_end, alone_at_lexeme, alone_at_line}
 use Rattle.layout.proofs.Single.{single_sheet}
 use Rattle.layout.proofs.rule.rule_at.Goals as goal
 
-pub returns-in-Line : goal.returns-in-Line
-returns-in-Line g c =
-    let a = alone_at_line (g.P.Probing.remainder c.args.parser.now) c.args.innermost _ _ c.args.coming.now c.in-Line.is
+pub returns-in-Some-Line : goal.returns-in-Some-Line
+returns-in-Some-Line g c =
+    let a = alone_at_line (g.P.Probing.remainder c.args.parser.now) c.args.innermost _ _ c.args.coming.now (search rules)
     (c.rule_at_line.ensures ∙ ap (λ n. line_rule n c.args.innermost) c.column.ensures) in
     record { applies = a.applies; only = a.only; single = λ ls p out out'. single_sheet (g.P.Probing.remainder c.args.parser.now) }
 
-pub returns-in-Block : goal.returns-in-Block
-returns-in-Block g c =
-    let a = alone_at_block (g.P.Probing.remainder c.args.parser.now) c.args.innermost _ _ c.args.coming.now c.in-Block.is
-    (c.rule_at_block.ensures ∙ ap (λ n. block_rule n c.args.innermost) c.column-in-Block.ensures) in
+pub returns-in-Some-Block : goal.returns-in-Some-Block
+returns-in-Some-Block g c =
+    let a = alone_at_block (g.P.Probing.remainder c.args.parser.now) c.args.innermost _ _ c.args.coming.now (search rules)
+    (c.rule_at_block.ensures ∙ ap (λ n. block_rule n c.args.innermost) c.column-in-Some-Block.ensures) in
     record { applies = a.applies; only = a.only; single = λ ls p out out'. single_sheet (g.P.Probing.remainder c.args.parser.now) }
 
 pub returns-in-End : goal.returns-in-End

@@ -1,9 +1,8 @@
-use Rattle.std.proofs.Common.{[], sym, ap, ◌∙◌, subst}
+use Rattle.std.proofs.Common.{[], sym, ap, ◌∙◌, subst, None}
 use Rattle.std.proofs.lemmas.Bool.{true≢false}
 use Rattle.layout.specs.First.{close_rule}
 use Rattle.layout.specs.Rules.{Applies, MustClose, close_on_error, open_typed, write_lexeme}
 use Rattle.layout.specs.declared.rule.Coming.TheVariants.{Lexeme as lexeme}
-use Rattle.layout.specs.declared.rule.Mark.TheVariants.{None}
 use Rattle.layout.proofs.Firsts.{at_close}
 use Rattle.layout.proofs.rule.rule_at_lexeme.Goals as goal
 

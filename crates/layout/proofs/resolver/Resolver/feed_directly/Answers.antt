@@ -1,4 +1,4 @@
-use Rattle.std.proofs.Common.{◌≡◌, [], Ok, Err, Result, sym, subst}
+use Rattle.std.proofs.Common.{◌≡◌, [], Ok, Err, Result, sym, subst, Option}
 use Rattle.parser.specs.Meaning.{Meaning, meaning}
 use Rattle.sheet.specs.declared.fault.Reason.{Reason}
 use Rattle.layout.specs.Calling.{next_of, standing}
@@ -27,7 +27,7 @@ moved g c x is =
     let q = c.take_directly.new.self in
     let go = c.is_direct.ensures c.if-not-is_direct.false in
     subst (λ (y : Result (Unit {0}) Reason). Moves r.contexts (stack r.contexts r.depth) (mark_of r.before c.args.lexeme.now) (lexeme c.args.lexeme.now) c.args.free (of g r.parser) (of g q.parser) (alone r.depth y)) is
-    (subst (λ (k : Mark). Moves r.contexts (stack r.contexts r.depth) k (lexeme c.args.lexeme.now) c.args.free (of g r.parser) (of g q.parser) (alone r.depth c.in-Some.taken)) (sym go.3) (c.in-Some.ensures.told c.args.free go.0))
+    (subst (λ (k : Option Mark). Moves r.contexts (stack r.contexts r.depth) k (lexeme c.args.lexeme.now) c.args.free (of g r.parser) (of g q.parser) (alone r.depth c.in-Some.taken)) (sym go.3) (c.in-Some.ensures.told c.args.free go.0))
 
 pub returns-in-None : goal.returns-in-None
 returns-in-None g c =

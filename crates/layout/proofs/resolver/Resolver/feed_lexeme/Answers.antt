@@ -1,4 +1,4 @@
-use Rattle.std.proofs.Common.{[], length, is_some, Ok, Err, sym, ap, ◌∙◌, subst, arith}
+use Rattle.std.proofs.Common.{[], length, is_some, Ok, Err, sym, ap, ◌∙◌, subst, arith, Option}
 use Rattle.std.proofs.lemmas.Result.{err_from_is_err_and}
 use Rattle.std.proofs.lemmas.Bool.{false≢true}
 use Rattle.parser.specs.Meaning.{Meaning, meaning}
@@ -36,7 +36,7 @@ returns-in_err-draft g c =
     subst (Fed (over (of g r.parser) (standing r)) c.args.number c.args.lexeme c.args.free (over (of g q.parser) (standing q))) (sym (turned.1 ∙ ap Err turned.2))
     (fed_refused r (of g r.parser) (of g q.parser) c.args.number c.args.free c.args.lexeme (standing q) c.in_err-draft.field-0.0 (c.is_open.ensures.0 c.if-not-is_open.false) (c.is_good.ensures.0 c.if-not-is_good.false)
     (beside_standing r q c.advance.ensures.beside)
-    (subst (λ (x : Mark). Moves r.contexts (stack r.contexts r.depth) x (lexeme c.args.lexeme) c.args.free (of g r.parser) (of g q.parser) (Err c.in_err-draft.field-0.0)) c.mark_of-mark.ensures.value c.in_err-draft.ensures.told))
+    (subst (λ (x : Option Mark). Moves r.contexts (stack r.contexts r.depth) x (lexeme c.args.lexeme) c.args.free (of g r.parser) (of g q.parser) (Err c.in_err-draft.field-0.0)) c.mark_of-mark.ensures.value c.in_err-draft.ensures.told))
 
 pub settle-requires : goal.settle-requires
 settle-requires g c =
@@ -69,4 +69,4 @@ returns g c =
       written = [];
     })
     (subst (λ p. Moves r.contexts (stack r.contexts r.depth) (mark_of r.before c.args.lexeme) (lexeme c.args.lexeme) c.args.free (of g r.parser) (of g p) (Ok d)) (sym around.parser)
-    (subst (λ (x : Mark). Moves r.contexts (stack r.contexts r.depth) x (lexeme c.args.lexeme) c.args.free (of g r.parser) (of g q.parser) (Ok d)) c.mark_of-mark.ensures.value c.in_ok-draft.ensures.told))
+    (subst (λ (x : Option Mark). Moves r.contexts (stack r.contexts r.depth) x (lexeme c.args.lexeme) c.args.free (of g r.parser) (of g q.parser) (Ok d)) c.mark_of-mark.ensures.value c.in_ok-draft.ensures.told))

@@ -19,8 +19,7 @@ impl ExpectedKinds {
     pub fn has(&self, kind: u32) -> bool
         ensures { result ≡ flagged self.now.flags kind }
     {
-        let at = kind as usize;
-        if at < FLAGS { self.flags[at] } else { false }
+        self.flags.get(kind as usize).copied().unwrap_or(false)
     }
 }
 
@@ -30,8 +29,9 @@ pub fn expected_kinds<P: Probing>(parser: &P) -> ExpectedKinds
     ensures others { (kind : ℕ) → (1 ≤ kind → kind ≤ 15 → ⊥) → flagged result.flags kind ≡ false }
 {
     let mut flags = [false; FLAGS];
-    for i in 1..FLAGS {
-        flags[i] = parser.viable(i as u32);
+    // No `array::from_fn`: what it promises does not tell that its closure asks the same parser at each turn.
+    for kind in 1..FLAGS {
+        flags[kind] = parser.viable(kind as u32);
     }
     ExpectedKinds { flags }
 }

@@ -13,11 +13,11 @@ mod runs;
 pub use expected::{ExpectedKinds, expected_kinds};
 pub use runs::{Answer, Call, accepts, agree, perform, take_all};
 
-// Why a kind was not taken.
+// Why a kind was not taken, with the number that a fault carries.
 #[derive(Clone, Copy, Debug, PartialEq, Eq)]
 pub enum Refused {
-    NotViable,
-    ReachSpent,
+    NotViable = 11,
+    ReachSpent = 12,
 }
 
 impl Refused {
@@ -25,10 +25,7 @@ impl Refused {
     pub fn number(self) -> u8
         ensures { result ≡ number_of self }
     {
-        match self {
-            Refused::NotViable => 11,
-            Refused::ReachSpent => 12,
-        }
+        self as u8
     }
 }
 

@@ -37,9 +37,8 @@ pub fn take_all<P: Stepping>(parser: &mut P, kinds: &[u32]) -> usize
     ensures prefix { BeginsWith (P.Probing.remainder parser.old) kinds.now → length kinds.now ≤ P.left parser.old → result ≡ length kinds.now }
 {
     for (i, kind) in kinds.iter().enumerate() {
-        match parser.take(*kind) {
-            Ok(()) => {}
-            Err(_) => return i,
+        if let Err(_) = parser.take(*kind) {
+            return i;
         }
     }
     kinds.len()
@@ -96,7 +95,7 @@ pub fn perform<P: Stepping>(parser: &mut P, call: Call) -> Answer
     }
 }
 
-// Whether two answers are the same.
+// Whether two answers are the same. A function of its own, since a proof has `==` on an enum as a test on its parts.
 fn same(one: Answer, other: Answer) -> bool
     ensures { Decides result (one ≡ other) }
 {

@@ -1,6 +1,6 @@
 // A small parser of its own: any number of names. It shows that the interfaces can be kept, and tries what is generic
 // over them.
-ghost use Rattle.std.specs.Prelude.{◌≡◌, true, false};
+ghost use Rattle.std.specs.Prelude.{◌≡◌, Some, None};
 ghost use Rattle.std.specs.List.{AllByRecursion};
 ghost use Rattle.parser.specs.Meaning.{Mark, absent, holds};
 ghost use Rattle.std.proofs.Common.{rules};
@@ -14,15 +14,14 @@ const REACH: u16 = 3;
 #[derive(Drop)]
 struct Names {
     left: u16,
-    marked: bool,
-    earlier: u16,
+    // What was left at the mark, if there is one.
+    earlier: Option<u16>,
 }
 
 fn new_names() -> Names {
     Names {
         left: REACH,
-        marked: false,
-        earlier: 0,
+        earlier: None,
     }
 }
 
@@ -45,13 +44,13 @@ impl Stepping for Names {
 
     ghost left = { λ s. s.left };
 
-    ghost saved = { λ s. elim s.marked as (λ _. Mark) [ true ↦ holds (AllByRecursion (λ kind. kind ≡ 1)) s.earlier | false ↦ absent ] };
+    ghost saved = { λ s. elim s.earlier as (λ _. Mark) [ Some n ↦ holds (AllByRecursion (λ kind. kind ≡ 1)) n | None ↦ absent ] };
 
     ghost reach_small = { Prim.search rules };
 
     fn start(&mut self) {
         self.left = REACH;
-        self.marked = false;
+        self.earlier = None;
     }
 
     fn take(&mut self, kind: u32) -> Result<(), Refused> {
@@ -66,19 +65,18 @@ impl Stepping for Names {
     }
 
     fn mark(&mut self) {
-        self.earlier = self.left;
-        self.marked = true;
+        self.earlier = Some(self.left);
     }
 
     fn back(&mut self) {
-        if self.marked {
-            self.left = self.earlier;
-            self.marked = false;
+        if let Some(left) = self.earlier {
+            self.left = left;
+            self.earlier = None;
         }
     }
 
     fn keep(&mut self) {
-        self.marked = false;
+        self.earlier = None;
     }
 }
 

@@ -29,7 +29,7 @@ returns-in-Err g c =
 
 pub loop-i-preserved : goal.loop-i-preserved
 loop-i-preserved g c =
-    let t = c.in-Ok.ensures in
+    let t = c.in_default.ensures in
     let i = c.loop-i.i in
     let kinds = c.args.kinds.now in
     let long = length-take-le i kinds (omega arith) in

@@ -1,10 +1,15 @@
 -- What a stack with a number left means, and a parser made of two such.
 -- Assumes nothing.
-use Rattle.std.specs.Prelude.{ℕ, Bool, true, false, List}
+use Rattle.std.specs.Prelude.{ℕ, Bool, true, false, List, reverse}
 use Rattle.grammar.specs.Grammar.{SentencesFrom, LanguageOf}
 use Rattle.grammar.specs.Sheet.{sheet}
 use Rattle.parser.specs.Sets.{Lists}
 use Rattle.parser.specs.Meaning.{Mark, absent, holds, Meaning}
+use Rattle.table.specs.declared.level.Level.{Level}
+
+-- the stack of a level, the top first
+abbrev pub stack_of : Level → List ℕ
+stack_of level = reverse level.symbols.items
 
 -- the lists of kinds that a stack derives
 abbrev pub remains : List ℕ → Lists

@@ -1,9 +1,9 @@
 // The table parser: what it holds now, what a mark holds, and the two interfaces.
-ghost use Rattle.std.specs.Prelude.{◌≤◌, length, drop as rest, Decides};
+ghost use Rattle.std.specs.Prelude.{◌≤◌, length, Decides};
 ghost use Rattle.grammar.specs.Grammar.{LanguageOf};
 ghost use Rattle.grammar.specs.Sheet.{sheet};
 ghost use Rattle.parser.specs.Meaning.{Alike};
-ghost use Rattle.table.specs.Level.{remains, table_reach, mark_of, means, fresh};
+ghost use Rattle.table.specs.Level.{stack_of, remains, table_reach, mark_of, means, fresh};
 ghost use Rattle.std.proofs.Common.{rules};
 
 use crate::level::Level;
@@ -19,7 +19,7 @@ pub struct TableParser {
 impl TableParser {
     // A parser as a start leaves it: of the sheet grammar's language, with the whole reach and no mark.
     pub fn new() -> TableParser
-        ensures { Alike (means (rest result.present.top result.present.places) result.present.left (mark_of result.marked (rest result.held.top result.held.places) result.held.left)) fresh }
+        ensures { Alike (means (stack_of result.present) result.present.left (mark_of result.marked (stack_of result.held) result.held.left)) fresh }
     {
         TableParser {
             present: Level::new(),
@@ -30,7 +30,7 @@ impl TableParser {
 }
 
 impl Probing for TableParser {
-    ghost remainder = { λ s. remains (rest s.present.top s.present.places) };
+    ghost remainder = { λ s. remains (stack_of s.present) };
 
     fn viable(&self, kind: u32) -> bool {
         self.present.viable(kind)
@@ -48,7 +48,7 @@ impl Stepping for TableParser {
 
     ghost left = { λ s. s.present.left };
 
-    ghost saved = { λ s. mark_of s.marked (rest s.held.top s.held.places) s.held.left };
+    ghost saved = { λ s. mark_of s.marked (stack_of s.held) s.held.left };
 
     ghost reach_small = { Prim.search rules };
 

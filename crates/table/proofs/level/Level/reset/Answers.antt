@@ -1,8 +1,8 @@
-use Rattle.std.proofs.Common.{◌∙◌, arith}
+use Rattle.std.proofs.Common.{length, ap, arith}
 use Rattle.table.proofs.Levels.{ends_fresh}
 use Rattle.table.proofs.level.Level.reset.Goals as goal
 
 pub invariant_of-self : goal.invariant_of-self
 invariant_of-self c =
-    let at = c.lay_start-self.ensures.at in
-    record { depth = c.lay_start-self.auto.places ∙ c.args.self.now.depth; inside = omega arith; room = omega arith; ends = ends_fresh _ c.lay_start-self.ensures.stack }
+    let one = ap length c.lay.ensures in
+    record { room = omega arith; ends = ends_fresh _ c.lay.ensures }

@@ -1,0 +1,149 @@
+-- The rule of the steps, proved at all of them by one test that antt computes from the table and the productions, and
+-- carried to each.
+-- Assumes nothing.
+use Rattle.std.proofs.Common.{◌≡◌, ℕ, zero, suc, ◌+◌, ◌-◌, ◌≤◌, Bool, true, false, ◌&&◌, eqb, ltb, leb, List, [], ◌∷◌, ◌++◌, length, reverse, get_or, sym, refl, subst, ap₂, append_assoc, arith}
+use mathlib.Core.Bool.{false≢true}
+use Rattle.std.proofs.lemmas.List.{length-reverse}
+use Rattle.std.proofs.lemmas.Bool.{and_parts, eqb-true, eqb-false, ltb-true, ltb-false, leb-true}
+use Rattle.grammar.specs.Grammar.{IsKind, nth}
+use Rattle.grammar.specs.Sheet.{sheet}
+use Rattle.grammar.proofs.Tests.{below, at_below}
+use Rattle.table.specs.Cells.{cells}
+use Rattle.table.specs.Entry.{Entry}
+use Rattle.table.specs.Stack.{Ends, SameFor, Follows, Never}
+use Rattle.table.specs.Steps.{left_of, step_at}
+use Rattle.table.specs.Comes.{Leaves}
+use Rattle.table.proofs.Rule.{entry_at}
+use Rattle.table.proofs.Expand.{entry_zero, entry_expands, ends_expand, ends_pop, ends_known, kind_other, kind_met}
+
+-- the table's entry
+abbrev cell : ℕ → ℕ → ℕ
+cell a t = get_or (get_or cells (a - 16) []) (t - 1) 0
+
+-- the two lists have the same numbers
+abbrev alike : List ℕ → List ℕ → Bool
+alike [] [] = true
+alike [] (b ∷ y) = false
+alike (a ∷ x) [] = false
+alike (a ∷ x) (b ∷ y) = eqb a b && alike x y
+
+alike_true : (x y : List ℕ) → alike x y ≡ true → x ≡ y
+alike_true [] [] e = refl
+alike_true [] (b ∷ y) e = absurd (false≢true e)
+alike_true (a ∷ x) [] e = absurd (false≢true e)
+alike_true (a ∷ x) (b ∷ y) e =
+    let parts = and_parts (eqb a b) (alike x y) e in
+    ap₂ ◌∷◌ (eqb-true a b parts.0) (alike_true x y parts.1)
+
+-- what the step of a number means: as t comes next, the symbols before the rest are rejected, vanish, or are met
+abbrev pub MakesBy : ℕ → List ℕ → List ℕ → ℕ → Type 0
+MakesBy t x rest zero = Never t (x ++ rest)
+MakesBy t x rest (suc zero) = SameFor t (x ++ rest) rest
+MakesBy t x rest (suc (suc n)) = (length (left_of n) ≤ 4) × Follows t (x ++ rest) (left_of n ++ rest) × Ends (left_of n ++ rest)
+
+-- the nonterminal a comes to the step of this number, whatever is below it
+abbrev pub ComesBy : ℕ → ℕ → ℕ → Type 0
+ComesBy a t s = (rest : List ℕ) → Ends (a ∷ rest) → MakesBy t (a ∷ []) rest s
+
+-- the number's step rejects the kind
+abbrev rejects : ℕ → Bool
+rejects zero = true
+rejects (suc zero) = false
+rejects (suc (suc n)) = false
+
+-- it passes over the nonterminal
+abbrev vanishes : ℕ → Bool
+vanishes zero = false
+vanishes (suc zero) = true
+vanishes (suc (suc n)) = false
+
+-- it meets the kind and leaves these symbols
+abbrev leaves : List ℕ → ℕ → Bool
+leaves x zero = false
+leaves x (suc zero) = false
+leaves x (suc (suc n)) = leb (length (left_of n)) 4 && alike x (left_of n)
+
+-- by whether a kind stands first, whether it is the kind that comes, and whether the entry is 0
+abbrev at_top : Bool → Bool → Bool → List ℕ → ℕ → (Unit {0} → Bool) → Bool
+at_top true true z x s on = leaves x s
+at_top true false z x s on = rejects s
+at_top false b true x s on = rejects s
+at_top false b false x s on = on tt
+
+-- the test that the table's expansions of a list lead to the step, with so many symbols looked at
+abbrev leads : ℕ → ℕ → List ℕ → ℕ → Bool
+leads zero t x s = false
+leads (suc n) t [] s = vanishes s
+leads (suc n) t (a ∷ x) s =
+    at_top (ltb a 16) (eqb a t) (eqb (cell a t) 0) x s (λ _. leads n t ((nth sheet (cell a t)).right ++ x) s)
+
+all_lead : below (λ i. below (λ j. leads 4 (j + 1) ((i + 16) ∷ []) (step_at (i + 16) (j + 1))) 15) 10 ≡ true
+all_lead = refl
+
+makes_vanishing : (t : ℕ) (rest : List ℕ) (s : ℕ) → vanishes s ≡ true → MakesBy t [] rest s
+makes_vanishing t rest zero e = absurd (false≢true e)
+makes_vanishing t rest (suc zero) e = λ w. (λ d. d, λ d. d)
+makes_vanishing t rest (suc (suc n)) e = absurd (false≢true e)
+
+makes_met : (a t : ℕ) (x rest : List ℕ) (s : ℕ) → ltb a 16 ≡ true → eqb a t ≡ true → Ends (a ∷ (x ++ rest)) → leaves x s ≡ true → MakesBy t (a ∷ x) rest s
+makes_met a t x rest zero low same ends e = absurd (false≢true e)
+makes_met a t x rest (suc zero) low same ends e = absurd (false≢true e)
+makes_met a t x rest (suc (suc n)) low same ends e =
+    let parts = and_parts (leb (length (left_of n)) 4) (alike x (left_of n)) e in
+    let met = kind_met a (x ++ rest) t (ltb-true a 16 low) (eqb-true a t same) in
+    subst (λ y. (length (left_of n) ≤ 4) × Follows t (a ∷ (x ++ rest)) (y ++ rest) × Ends (y ++ rest)) (alike_true x (left_of n) parts.1)
+    (leb-true (length (left_of n)) 4 parts.0, met, ends_pop a (x ++ rest) ends)
+
+makes_never : (t : ℕ) (x rest : List ℕ) (s : ℕ) → Never t (x ++ rest) → rejects s ≡ true → MakesBy t x rest s
+makes_never t x rest zero never e = never
+makes_never t x rest (suc zero) never e = absurd (false≢true e)
+makes_never t x rest (suc (suc n)) never e = absurd (false≢true e)
+
+-- from lists of which the same is derived, the same is made
+makes_same : (t : ℕ) (x y rest : List ℕ) (s : ℕ) → SameFor t (x ++ rest) (y ++ rest) → MakesBy t y rest s → MakesBy t x rest s
+makes_same t x y rest zero same h = λ w d. h w ((same w).0 d)
+makes_same t x y rest (suc zero) same h = λ w. (λ d. (h w).0 ((same w).0 d), λ d. (same w).1 ((h w).1 d))
+makes_same t x y rest (suc (suc n)) same h =
+    (h.0, λ w. (λ d. (h.1 w).0 ((same w).0 d), λ d. (same w).1 ((h.1 w).1 d)), h.2)
+
+module _ (a t : ℕ) (x rest : List ℕ) (s : ℕ) (k : IsKind t) (ends : Ends (a ∷ (x ++ rest))) where
+  entry_of : (ltb a 16 ≡ false) → Entry a t (cell a t)
+  entry_of high = entry_at a t (ltb-false a 16 high) (ends_known (a ∷ (x ++ rest)) ends).1 k.0 k.1
+
+  makes_top : (b c z : Bool) → ltb a 16 ≡ b → eqb a t ≡ c → eqb (cell a t) 0 ≡ z → (on : Unit {0} → Bool)
+      → (Ends (((nth sheet (cell a t)).right ++ x) ++ rest) → on tt ≡ true → MakesBy t ((nth sheet (cell a t)).right ++ x) rest s) → at_top b c z x s on ≡ true → MakesBy t (a ∷ x) rest s
+  makes_top true true z low same entry on more e = makes_met a t x rest s low same ends e
+  makes_top true false z low other entry on more e =
+      makes_never t (a ∷ x) rest s (kind_other a (x ++ rest) t (ltb-true a 16 low) (eqb-false a t other)) e
+  makes_top false c true high same entry on more e =
+      makes_never t (a ∷ x) rest s (entry_zero a (x ++ rest) t (ltb-false a 16 high) k ends (subst (Entry a t) (eqb-true (cell a t) 0 entry) (entry_of high))) e
+  makes_top false c false high same entry on more e =
+      let some = eqb-false (cell a t) 0 entry in
+      let whole = sym (append_assoc (nth sheet (cell a t)).right x rest) in
+      let same = entry_expands a (x ++ rest) t (cell a t) (ltb-false a 16 high) k ends (entry_of high) some in
+      let then = ends_expand a (x ++ rest) t (cell a t) (entry_of high) some ends in
+      makes_same t (a ∷ x) ((nth sheet (cell a t)).right ++ x) rest s (subst (SameFor t (a ∷ (x ++ rest))) whole same) (more (subst Ends whole then) e)
+
+-- what passes the test is made
+leads_makes : (n t : ℕ) (x rest : List ℕ) (s : ℕ) → IsKind t → Ends (x ++ rest) → leads n t x s ≡ true → MakesBy t x rest s
+leads_makes zero t x rest s k ends e = absurd (false≢true e)
+leads_makes (suc n) t [] rest s k ends e = makes_vanishing t rest s e
+leads_makes (suc n) t (a ∷ x) rest s k ends e =
+    makes_top a t x rest s k ends (ltb a 16) (eqb a t) (eqb (cell a t) 0) refl refl refl (λ _. leads n t ((nth sheet (cell a t)).right ++ x) s)
+    (λ then. leads_makes n t ((nth sheet (cell a t)).right ++ x) rest s k then) e
+
+-- the rule at each step
+pub step_at_lem : (a t : ℕ) → 16 ≤ a → a ≤ 25 → IsKind t → ComesBy a t (step_at a t)
+step_at_lem a t low high k rest ends =
+    let i : a - 16 + 16 ≡ a = omega arith in
+    let j : t - 1 + 1 ≡ t = omega arith in
+    let row = at_below (λ i. below (λ j. leads 4 (j + 1) ((i + 16) ∷ []) (step_at (i + 16) (j + 1))) 15) 10 (a - 16) all_lead (omega arith) in
+    let one = at_below (λ j. leads 4 (j + 1) ((a - 16 + 16) ∷ []) (step_at (a - 16 + 16) (j + 1))) 15 (t - 1) row (omega arith) in
+    leads_makes 4 t (a ∷ []) rest (step_at a t) k ends (subst (λ y. leads 4 y (a ∷ []) (step_at a y) ≡ true) j (subst (λ x. leads 4 (t - 1 + 1) (x ∷ []) (step_at x (t - 1 + 1)) ≡ true) i one))
+
+-- symbols that are kept the last first are what is left by their number
+pub left_kept : (a t n : ℕ) (ys rest : List ℕ) → reverse ys ≡ left_of n → Ends (a ∷ rest) → ComesBy a t (suc (suc n)) → Leaves t (a ∷ []) rest ys
+left_kept a t n ys rest is ends comes =
+    let long = length-reverse ys in
+    let h = subst (λ x. (length x ≤ 4) × Follows t (a ∷ rest) (x ++ rest) × Ends (x ++ rest)) (sym is) (comes rest ends) in
+    (omega (arith, h.0), h.1, h.2)

@@ -1,7 +1,7 @@
 -- The rule of the steps, proved at all of them by one test that antt computes from the table and the productions, and
 -- carried to each.
 -- Assumes nothing.
-use Rattle.std.proofs.Common.{◌≡◌, ℕ, zero, suc, ◌+◌, ◌-◌, ◌≤◌, Bool, true, false, ◌&&◌, eqb, ltb, leb, List, [], ◌∷◌, ◌++◌, length, reverse, get_or, sym, refl, subst, ap₂, append_assoc, arith}
+use Rattle.std.proofs.Common.{◌≡◌, ℕ, zero, suc, ◌+◌, ◌-◌, ◌<◌, ◌≤◌, Bool, true, false, ◌&&◌, eqb, ltb, leb, List, [], ◌∷◌, ◌++◌, length, reverse, get_or, slice_index, slice_index_or, sym, refl, subst, ap₂, append_assoc, arith}
 use mathlib.Core.Bool.{false≢true}
 use Rattle.std.proofs.lemmas.List.{length-reverse}
 use Rattle.std.proofs.lemmas.Bool.{and_parts, eqb-true, eqb-false, ltb-true, ltb-false, leb-true}
@@ -11,7 +11,7 @@ use Rattle.grammar.proofs.Tests.{below, at_below}
 use Rattle.table.specs.Cells.{cells}
 use Rattle.table.specs.Entry.{Entry}
 use Rattle.table.specs.Stack.{Ends, SameFor, Follows, Never}
-use Rattle.table.specs.Steps.{left_of, step_at}
+use Rattle.table.specs.Steps.{step_rows, left_of, step_at}
 use Rattle.table.specs.Comes.{Leaves}
 use Rattle.table.proofs.Rule.{entry_at}
 use Rattle.table.proofs.Expand.{entry_zero, entry_expands, ends_expand, ends_pop, ends_known, kind_other, kind_met}
@@ -147,3 +147,11 @@ left_kept a t n ys rest is ends comes =
     let long = length-reverse ys in
     let h = subst (λ x. (length x ≤ 4) × Follows t (a ∷ rest) (x ++ rest) × Ends (x ++ rest)) (sym is) (comes rest ends) in
     (omega (arith, h.0), h.1, h.2)
+
+all_few : below (λ i. below (λ j. ltb (slice_index (slice_index_or step_rows i []) j) 16) 16) 10 ≡ true
+all_few = refl
+
+-- a step's number is below 16
+pub number_few : (row column : ℕ) → row < 10 → column < 16 → slice_index (slice_index_or step_rows row []) column < 16
+number_few row column low within =
+    ltb-true _ 16 (at_below (λ j. ltb (slice_index (slice_index_or step_rows row []) j) 16) 16 column (at_below (λ i. below (λ j. ltb (slice_index (slice_index_or step_rows i []) j) 16) 16) 10 row all_few low) within)

@@ -35,34 +35,39 @@ static STEPS: [[u8; 16]; 10] = [
     [0, 0, 0, 0, 0, 0, 0, 1, 0, 12, 0, 0, 0, 0, 0, 0],
 ];
 
+// The symbols that can be left, by their number, the last of them first.
+static LEFT: [&[u8]; 14] = [
+    &[],
+    &[16],
+    &[17],
+    &[20],
+    &[22],
+    &[23],
+    &[4, 17],
+    &[18, 20],
+    &[21, 22],
+    &[23, 16],
+    &[25, 22],
+    &[22, 12, 16],
+    &[7, 25, 22],
+    &[23, 7, 25, 22],
+];
+
 // What stands in a row and a column, counted from 0.
 fn number(row: usize, column: usize) -> u8
     requires { (row < 10) × (column < 16) }
-    ensures { result ≡ slice_index (slice_index_or step_rows row []) column }
+    ensures is { result ≡ slice_index (slice_index_or step_rows row []) column }
+    ensures few { result < 16 }
 {
     STEPS[row][column]
 }
 
-// The symbols that are left, by their number, the last of them first; none for a number that has none.
+// The symbols of a number.
 fn left_of(number: u8) -> &'static [u8]
+    requires { number < 14 }
     ensures { reverse result.now ≡ named number }
 {
-    match number {
-        1 => &[16],
-        2 => &[17],
-        3 => &[20],
-        4 => &[22],
-        5 => &[23],
-        6 => &[4, 17],
-        7 => &[18, 20],
-        8 => &[21, 22],
-        9 => &[23, 16],
-        10 => &[25, 22],
-        11 => &[22, 12, 16],
-        12 => &[7, 25, 22],
-        13 => &[23, 7, 25, 22],
-        _ => &[],
-    }
+    LEFT[number as usize]
 }
 
 // What a symbol of the grammar comes to when this kind comes next.

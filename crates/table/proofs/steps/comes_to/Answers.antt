@@ -14,17 +14,17 @@ returns-else-from-kind c rest ends =
 
 pub returns-in-0 : goal.returns-in-0
 returns-in-0 c =
-    subst (ComesBy c.args.symbol c.args.kind) (sym c.number.ensures ∙ c.in-0.is)
+    subst (ComesBy c.args.symbol c.args.kind) (sym c.number.ensures.is ∙ c.in-0.is)
     (step_at_lem c.args.symbol c.args.kind c.if-symbol-lt-NONTERMINAL.false c.requires.0 c.requires.1)
 
 pub returns-in-1 : goal.returns-in-1
 returns-in-1 c =
-    subst (ComesBy c.args.symbol c.args.kind) (sym c.number.ensures ∙ c.in-1.is)
+    subst (ComesBy c.args.symbol c.args.kind) (sym c.number.ensures.is ∙ c.in-1.is)
     (step_at_lem c.args.symbol c.args.kind c.if-symbol-lt-NONTERMINAL.false c.requires.0 c.requires.1)
 
 pub returns-in_default : goal.returns-in_default
 returns-in_default c rest ends =
     let met : c.number.result ≡ suc (suc (c.number.result - 2)) = omega arith in
     left_kept c.args.symbol c.args.kind _ c.left_of.result.now rest c.left_of.ensures ends
-    (subst (ComesBy c.args.symbol c.args.kind) (sym c.number.ensures ∙ met)
+    (subst (ComesBy c.args.symbol c.args.kind) (sym c.number.ensures.is ∙ met)
     (step_at_lem c.args.symbol c.args.kind c.if-symbol-lt-NONTERMINAL.false c.requires.0 c.requires.1))

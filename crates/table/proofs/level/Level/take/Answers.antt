@@ -22,7 +22,7 @@ lay-requires c =
     let deeper = found.deeper in
     let room = c.args.self.now.room in
     let some = c.if-self-eq0.false in
-    omega arith
+    (omega arith, omega arith)
 
 pub invariant_of-self : goal.invariant_of-self
 invariant_of-self c =

@@ -32,16 +32,17 @@ pub fn right_side(production: u8) -> &'static [u8]
     }
 }
 
-// The sheet grammar's nullable nonterminals, as they are kept.
+// The sheet grammar's sets, as they are kept. They stand in functions of their own, so that one lemma says of each set what
+// it means: in the public functions below, each arm of the match would need an answer that says it again.
+
+// The nullable nonterminals.
 fn kept_nullable(symbol: u8) -> bool
     ensures { result ≡ among symbol nullables }
 {
-    match symbol {
-        17 | 18 | 19 | 21 | 23 | 25 => true,
-        _ => false,
-    }
+    matches!(symbol, 17 | 18 | 19 | 21 | 23 | 25)
 }
 
+// The kinds that can begin what a nonterminal derives.
 fn kept_beginners(symbol: u8) -> &'static [u8]
     ensures { result.now ≡ beginners symbol }
 {
@@ -60,18 +61,15 @@ fn kept_beginners(symbol: u8) -> &'static [u8]
     }
 }
 
+// The kinds that can follow a nonterminal.
 fn kept_followers(symbol: u8) -> &'static [u8]
     ensures { result.now ≡ followers symbol }
 {
     match symbol {
         16 => &[4, 5, 7, 9, 10, 12, 13],
-        17 => &[4],
-        18 => &[4],
-        19 => &[4, 5],
-        20 => &[4, 5],
-        21 => &[4, 5],
-        22 => &[4, 5, 7, 9, 13],
-        23 => &[4, 5, 7, 9, 13],
+        17 | 18 => &[4],
+        19 | 20 | 21 => &[4, 5],
+        22 | 23 => &[4, 5, 7, 9, 13],
         24 => &[4, 5, 7, 9, 10, 13],
         25 => &[7],
         _ => &[],

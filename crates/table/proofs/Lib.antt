@@ -1,6 +1,5 @@
 pub mod Rule
 pub mod Expand
-pub mod Sizes
-pub mod Laid
+pub mod Leads
 pub mod Walks
 pub mod Levels

@@ -1,5 +1,7 @@
 pub mod Cells
 pub mod Entry
 pub mod Stack
+pub mod Steps
+pub mod Comes
 pub mod Walk
 pub mod Level

@@ -1,19 +1,13 @@
--- A walk down a stack as a kind comes next.
+-- A walk down a stack as a kind comes next. The stack is given with its top last.
 -- Assumes nothing.
-use Rattle.std.specs.Prelude.{◌≡◌, ℕ, ◌+◌, ◌<◌, ◌≤◌, ◌⊎◌, List, [], ◌∷◌, ◌++◌, length, drop}
+use Rattle.std.specs.Prelude.{ℕ, ◌<◌, ◌≤◌, List, ◌++◌, length, take, reverse}
 use Rattle.grammar.specs.Grammar.{IsKind}
 use Rattle.table.specs.Stack.{Ends, Follows}
 
--- one symbol further: the first of those ahead, or where there is none the next of the stack
-pub record Further (places : List ℕ) (before : List ℕ) (below : ℕ) (s : ℕ) (after : List ℕ) (below' : ℕ) : Type 0 where
-  pub whole : before ++ drop below places ≡ s ∷ (after ++ drop below' places)
-  pub either : ((before ≡ s ∷ after) × (below' ≡ below)) ⊎ ((before ≡ []) × (after ≡ []) × (below' ≡ below + 1) × (below < length places))
-
--- the kind is met: what stands ahead, and the stack from below on, derive what followed it
-pub record Met (kind : ℕ) (places : List ℕ) (top : ℕ) (ahead : List ℕ) (below : ℕ) : Type 0 where
+-- the kind is met: so many symbols from the bottom, and what is left on top of them, derive what followed it
+pub record Found (kind : ℕ) (stack : List ℕ) (below : ℕ) (left : List ℕ) : Type 0 where
   pub is_kind : IsKind kind
-  pub follows : Follows kind (drop top places) (ahead ++ drop below places)
-  pub ends : Ends (ahead ++ drop below places)
-  pub few : length ahead ≤ 4
-  pub deeper : top < below
-  pub inside : below ≤ length places
+  pub follows : Follows kind (reverse stack) (reverse (take below stack ++ left))
+  pub ends : Ends (reverse (take below stack ++ left))
+  pub few : length left ≤ 4
+  pub deeper : below < length stack

@@ -25,14 +25,14 @@ fn cell(row: usize, column: usize) -> u8
 }
 
 // The production by which a nonterminal is expanded when this kind comes next, or 0 where there is none, for any two
-// numbers.
+// numbers. The format of the table asks for the 0: every other entry is 0.
 pub fn entry(symbol: u8, kind: u32) -> u8
     ensures { Entry symbol kind result }
 {
-    if symbol < 16 || symbol > 25 {
+    if !matches!(symbol, 16..=25) {
         return 0;
     }
-    if kind < 1 || kind > 15 {
+    if !matches!(kind, 1..=15) {
         return 0;
     }
     cell(symbol as usize - 16, kind as usize - 1)

@@ -1,12 +1,13 @@
 // A stack of symbols with the number of tokens that may still be taken: what a parser holds now, and what a mark holds.
-ghost use Rattle.std.specs.Prelude.{◌≡◌, ◌*◌, ◌≤◌, [], ◌∷◌, length, drop as rest, Decides};
+ghost use Rattle.std.specs.Prelude.{◌≡◌, ◌+◌, ◌*◌, ◌≤◌, [], ◌∷◌, ◌++◌, length, take, reverse, Decides};
+ghost use Rattle.arrayvec.specs.ArrayVec.{array_vec_len};
 ghost use Rattle.grammar.specs.Grammar.{start as start_symbol};
 ghost use Rattle.parser.specs.Sets.{Begins};
 ghost use Rattle.parser.specs.Meaning.{Takes, absent};
 ghost use Rattle.table.specs.Stack.{Ends};
-ghost use Rattle.table.specs.Level.{remains, means};
 
-use crate::walk::{lay, meet};
+use crate::walk::meet;
+use arrayvec::ArrayVec;
 use grammar::is_nullable;
 use parser::Refused;
 
@@ -19,98 +20,92 @@ const REACH: u16 = 1024;
 // The start symbol.
 const START: u8 = 16;
 
-// The stack is the places from `top` on, the top first. Each token left has three free places before it.
+// The top of the stack is the last of the symbols. For each token left three more have room.
 #[derive(Drop)]
 pub(crate) struct Level {
-    places: [u8; DEPTH],
-    top: usize,
+    symbols: ArrayVec<u8, DEPTH>,
     left: u16,
-    ghost depth: { length places ≡ 3073 },
-    ghost inside: { top ≤ 3073 },
-    ghost room: { 3 * left ≤ top },
-    ghost ends: { Ends (rest top places) },
+    ghost room: { array_vec_len symbols + 3 * left ≤ 3073 },
+    ghost ends: { Ends (reverse symbols.items) },
 }
 
-// Lays the start symbol alone, and answers where it stands.
-fn lay_start(places: &mut [u8]) -> usize
-    requires { length places.old ≡ 3073 }
-    ensures at { result ≡ 3072 }
-    ensures stack { rest result places.new ≡ start_symbol ∷ [] }
+// Keeps so many symbols from the bottom, and lays these on top. They are few at both sides, so they are taken off and laid
+// one by one: `truncate` and `try_extend_from_slice` were tried, and took 342 instructions a lexeme on the longest mixed
+// sheet of bench/, where this takes 255.
+fn lay(symbols: &mut ArrayVec<u8, DEPTH>, below: usize, top: &[u8])
+    requires { (below ≤ array_vec_len symbols.old) × (below + length top.now ≤ 3073) }
+    ensures { symbols.new.items ≡ take below symbols.old.items ++ top.now }
 {
-    lay(places, DEPTH, &[START])
+    while symbols.len() > below {
+        symbols.pop();
+    }
+    for symbol in top {
+        symbols.push(*symbol);
+    }
 }
 
 impl Level {
+    ghost use Rattle.table.specs.Level.{remains, stack_of, means};
+
     // The start symbol alone, with the whole reach.
     pub(crate) fn new() -> Level
-        ensures stack { rest result.top result.places ≡ start_symbol ∷ [] }
+        ensures stack { stack_of result ≡ start_symbol ∷ [] }
         ensures left { result.left ≡ 1024 }
     {
-        let mut places = [0; DEPTH];
-        let top = lay_start(&mut places);
+        let mut symbols = ArrayVec::new();
+        symbols.push(START);
         Level {
-            places,
-            top,
+            symbols,
             left: REACH,
         }
     }
 
     // Back to the start symbol alone, with the whole reach.
     pub(crate) fn reset(&mut self)
-        ensures stack { rest self.new.top self.new.places ≡ start_symbol ∷ [] }
+        ensures stack { stack_of self.new ≡ start_symbol ∷ [] }
         ensures left { self.new.left ≡ 1024 }
     {
-        self.top = lay_start(&mut self.places);
+        self.symbols.clear();
+        self.symbols.push(START);
         self.left = REACH;
     }
 
-    // The same stack and number left as the other has. Only the used places are copied.
+    // The same stack and number left as the other has. Only the symbols of the two stacks are touched.
     pub(crate) fn copy(&mut self, other: &Level)
-        ensures stack { rest self.new.top self.new.places ≡ rest other.now.top other.now.places }
+        ensures stack { stack_of self.new ≡ stack_of other.now }
         ensures left { self.new.left ≡ other.now.left }
     {
-        self.top = lay(&mut self.places, DEPTH, &other.places[other.top..]);
+        self.symbols.clear();
+        let _ = self.symbols.try_extend_from_slice(&other.symbols);
         self.left = other.left;
     }
 
     // Whether some list that the stack derives begins with this kind.
     pub(crate) fn viable(&self, kind: u32) -> bool
-        ensures { Decides result (Begins (remains (rest self.now.top self.now.places)) kind) }
+        ensures { Decides result (Begins (remains (stack_of self.now)) kind) }
     {
-        match meet(&self.places, self.top, kind) {
-            Some(_) => true,
-            None => false,
-        }
+        meet(&self.symbols, kind).is_some()
     }
 
-    // Whether the stack derives the empty list.
+    // Whether the stack derives the empty list. The bottom is tested first: there a block that is open has its brace.
     pub(crate) fn complete(&self) -> bool
-        ensures { Decides result (remains (rest self.now.top self.now.places) []) }
+        ensures { Decides result (remains (stack_of self.now) []) }
     {
-        let mut at = DEPTH;
-        while at > self.top {
-            at -= 1;
-            if !is_nullable(self.places[at]) {
-                return false;
-            }
-        }
-        true
+        self.symbols.iter().all(|symbol| is_nullable(*symbol))
     }
 
     // Takes the kind, where it is viable and some are left.
     pub(crate) fn take(&mut self, kind: u32) -> Result<(), Refused>
-        ensures { Takes kind (means (rest self.old.top self.old.places) self.old.left absent) result (means (rest self.new.top self.new.places) self.new.left absent) }
+        ensures { Takes kind (means (stack_of self.old) self.old.left absent) result (means (stack_of self.new) self.new.left absent) }
     {
-        match meet(&self.places, self.top, kind) {
-            None => Err(Refused::NotViable),
-            Some(walk) => {
-                if self.left == 0 {
-                    return Err(Refused::ReachSpent);
-                }
-                self.top = lay(&mut self.places, walk.below(), walk.ahead());
-                self.left -= 1;
-                Ok(())
-            }
+        let Some(met) = meet(&self.symbols, kind) else {
+            return Err(Refused::NotViable);
+        };
+        if self.left == 0 {
+            return Err(Refused::ReachSpent);
         }
+        lay(&mut self.symbols, met.below, met.left);
+        self.left -= 1;
+        Ok(())
     }
 }

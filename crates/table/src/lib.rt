@@ -5,6 +5,7 @@
 
 mod entries;
 mod level;
+mod steps;
 mod table_parser;
 mod walk;
 

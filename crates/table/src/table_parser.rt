@@ -1,9 +1,9 @@
 // The table parser: what it holds now, what a mark holds, and the two interfaces.
-ghost use Rattle.std.specs.Prelude.{◌≤◌, length, drop as rest, Decides};
+ghost use Rattle.std.specs.Prelude.{◌≤◌, length, Decides};
 ghost use Rattle.grammar.specs.Grammar.{LanguageOf};
 ghost use Rattle.grammar.specs.Sheet.{sheet};
 ghost use Rattle.parser.specs.Meaning.{Alike};
-ghost use Rattle.table.specs.Level.{remains, table_reach, mark_of, means, fresh};
+ghost use Rattle.table.specs.Level.{stack_of, remains, table_reach, mark_of, meaning_of, fresh};
 ghost use Rattle.std.proofs.Common.{rules};
 
 use crate::level::Level;
@@ -12,6 +12,8 @@ use parser::{Probing, Refused, Stepping, accepts};
 #[derive(Drop)]
 pub struct TableParser {
     present: Level,
+    // What a mark holds, and whether there is one. An Option<Level> was tried: it writes all the places of a level at each
+    // mark, and took 511 instructions a lexeme on the longest mixed sheet of bench/, where this takes 342.
     held: Level,
     marked: bool,
 }
@@ -19,7 +21,7 @@ pub struct TableParser {
 impl TableParser {
     // A parser as a start leaves it: of the sheet grammar's language, with the whole reach and no mark.
     pub fn new() -> TableParser
-        ensures { Alike (means (rest result.present.top result.present.places) result.present.left (mark_of result.marked (rest result.held.top result.held.places) result.held.left)) fresh }
+        ensures { Alike (meaning_of result) fresh }
     {
         TableParser {
             present: Level::new(),
@@ -30,7 +32,7 @@ impl TableParser {
 }
 
 impl Probing for TableParser {
-    ghost remainder = { λ s. remains (rest s.present.top s.present.places) };
+    ghost remainder = { λ s. remains (stack_of s.present) };
 
     fn viable(&self, kind: u32) -> bool {
         self.present.viable(kind)
@@ -48,7 +50,7 @@ impl Stepping for TableParser {
 
     ghost left = { λ s. s.present.left };
 
-    ghost saved = { λ s. mark_of s.marked (rest s.held.top s.held.places) s.held.left };
+    ghost saved = { λ s. mark_of s.marked s.held };
 
     ghost reach_small = { Prim.search rules };
 

@@ -1,6 +1,3 @@
-pub mod Steps
-pub mod Comes
-pub mod Leads
 pub mod Tells
 pub mod Laying
 pub mod Calling

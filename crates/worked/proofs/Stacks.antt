@@ -7,12 +7,11 @@ use Rattle.grammar.specs.Sets.{nullables}
 use Rattle.grammar.specs.Sheet.{sheet}
 use Rattle.grammar.proofs.Closed.{vanishes}
 use Rattle.grammar.proofs.SheetSets.{kinds_derived, null, vanishes_exact}
-use Rattle.worked.proofs.Comes.{Comes}
 use Rattle.table.specs.Level.{remains}
 use Rattle.table.specs.Stack.{Ends, Follows, Never, SameFor}
-use Rattle.worked.proofs.Steps.{left_of, step_at}
+use Rattle.table.specs.Steps.{left_of, step_at}
 use Rattle.table.proofs.Expand.{empty_never, ends_known, ends_pop, ends_start, kind_met, kind_other}
-use Rattle.worked.proofs.Leads.{step_at_lem}
+use Rattle.table.proofs.Leads.{ComesBy, step_at_lem}
 use Rattle.layout.specs.Rules.{Viable}
 use Rattle.worked.proofs.Tells.{Tells, tells_at_most, tells_below, tells_both, tells_equal}
 
@@ -66,7 +65,7 @@ meets_same : {t : ℕ} {x y : List ℕ} (o : Option (List ℕ)) → SameFor t x 
 meets_same None same h = λ w d. h w ((same w).0 d)
 meets_same (Some z) same h = (h.0, λ w. (λ d. (h.1 w).0 ((same w).0 d), λ d. (same w).1 ((h.1 w).1 d)))
 
-meets_top : (s t : ℕ) (x : List ℕ) (a b : Bool) (c : ℕ) (on : Unit {0} → Option (List ℕ)) → Ends (s ∷ x) → Tells a (s < 16) → Tells b (s ≡ t) → ((s < 16 → ⊥) → Comes s t c) → Meets t x (on tt) → Meets t (s ∷ x) (at_top a b c x on)
+meets_top : (s t : ℕ) (x : List ℕ) (a b : Bool) (c : ℕ) (on : Unit {0} → Option (List ℕ)) → Ends (s ∷ x) → Tells a (s < 16) → Tells b (s ≡ t) → ((s < 16 → ⊥) → ComesBy s t c) → Meets t x (on tt) → Meets t (s ∷ x) (at_top a b c x on)
 meets_top s t x true true c on ends low same step h = (ends_pop s x ends, kind_met s x t low same)
 meets_top s t x true false c on ends low other step h = kind_other s x t low other
 meets_top s t x false b zero on ends high same step h = step high x ends

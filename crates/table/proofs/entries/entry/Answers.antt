@@ -3,11 +3,11 @@ use Rattle.table.specs.Entry.{Entry}
 use Rattle.table.proofs.Rule.{entry_at, entry_none}
 use Rattle.table.proofs.entries.entry.Goals as goal
 
-pub returns-then-symbol-lt16 : goal.returns-then-symbol-lt16
-returns-then-symbol-lt16 c = entry_none c.args.symbol c.args.kind (λ a b d e. omega arith)
+pub returns-then-not-matches : goal.returns-then-not-matches
+returns-then-not-matches c = entry_none c.args.symbol c.args.kind (λ a b d e. omega arith)
 
-pub returns-then-kind-lt1 : goal.returns-then-kind-lt1
-returns-then-kind-lt1 c = entry_none c.args.symbol c.args.kind (λ a b d e. omega arith)
+pub returns-then-not-matches-2 : goal.returns-then-not-matches-2
+returns-then-not-matches-2 c = entry_none c.args.symbol c.args.kind (λ a b d e. omega arith)
 
 pub returns : goal.returns
 returns c =

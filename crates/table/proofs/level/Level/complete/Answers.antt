@@ -1,30 +1,14 @@
-use Rattle.std.proofs.Common.{false, [], sym, refl, subst, arith}
-use borrow.Author.Tests.{both_ways}
-use Rattle.std.proofs.lemmas.List.{drop_all}
-use Rattle.grammar.specs.Grammar.{Derives, done}
-use Rattle.grammar.specs.Sheet.{sheet}
-use Rattle.table.proofs.Levels.{null_more, null_stops}
+use Rattle.std.proofs.Common.{rules}
+use Rattle.std.proofs.lemmas.Bool.Decides.{same_from_decides}
+use Rattle.std.proofs.lemmas.Iterator.Search.{all_from_yields_List}
+use Rattle.std.proofs.lemmas.Iterator.{YieldsList-from_slice}
+use Rattle.grammar.specs.Grammar.{among}
+use Rattle.grammar.specs.Sets.{nullables}
+use Rattle.grammar.proofs.SheetSets.{null_exact}
+use Rattle.table.proofs.Levels.{empties_so}
 use Rattle.table.proofs.level.Level.complete.Goals as goal
 
-pub loop-at-init : goal.loop-at-init
-loop-at-init c =
-    let self = c.args.self.now in
-    let long = self.depth in
-    (self.inside, omega arith, subst (λ l. Derives sheet l []) (sym (drop_all 3073 self.places (omega arith))) done)
-
-pub returns-then-not-is_nullable : goal.returns-then-not-is_nullable
-returns-then-not-is_nullable c =
-    let self = c.args.self.now in
-    let long = self.depth in
-    let inside = c.loop-at.invariant.1 in
-    let not = c.if-not-is_nullable.ensures in (
-      λ e. absurd (both_ways false refl e),
-      λ d. absurd (null_stops self.places self.top c.loop-at.at c.loop-at-test.true (omega arith) (λ n. both_ways false refl (not.1 n)) d.0),
-    )
-
-pub loop-at-preserved : goal.loop-at-preserved
-loop-at-preserved c =
-    let self = c.args.self.now in
-    let long = self.depth in
-    let inside = c.loop-at.invariant.1 in
-    (omega arith, omega arith, null_more self.places c.loop-at.at (omega arith) (omega arith) (c.if-not-is_nullable.ensures.0 refl) c.loop-at.invariant.2)
+pub returns : goal.returns
+returns c =
+    let all = all_from_yields_List (λ s. among s nullables) _ _ c.all.result c.all.ensures.ran (YieldsList-from_slice c.deref.result.now cc) (λ x b q k. let d = null_exact x.now in (search rules, same_from_decides b (among x.now nullables) (search rules) d)) in
+    rw (all, ← c.deref.ensures.0) (empties_so c.deref.result.now)

@@ -1,17 +1,13 @@
-use Rattle.std.proofs.Common.{drop, refl, ◌∙◌, arith}
-use Rattle.table.proofs.Levels.{copied, copied_top, ends_same}
+use Rattle.std.proofs.Common.{◌≡◌, ◌++◌, length, ap, ◌∙◌, arith}
+use Rattle.table.proofs.Levels.{done_so, ends_same}
 use Rattle.table.proofs.level.Level.copy.Goals as goal
 
 pub invariant_of-self : goal.invariant_of-self
 invariant_of-self c =
     let other = c.args.other.now in
-    let same = copied c.args.self.now.places other.places other.top (drop c.lay-self.result c.lay-self.new.places) c.args.self.now.depth other.depth c.lay-self.ensures.laid in
-    let at = copied_top other.places other.top c.lay-self.result other.depth other.inside c.lay-self.ensures.begins in
-    let inside = other.inside in
     let room = other.room in
-    record { depth = c.lay-self.auto.places ∙ c.args.self.now.depth; inside = omega arith; room = omega arith; ends = ends_same (drop other.top other.places) _ same other.ends }
-
-pub returns : goal.returns
-returns c =
-    let other = c.args.other.now in
-    record { stack = copied c.args.self.now.places other.places other.top (drop c.lay-self.result c.lay-self.new.places) c.args.self.now.depth other.depth c.lay-self.ensures.laid; left = refl }
+    let none = ap length c.clear.ensures in
+    let whole = ap length c.deref.ensures.0 in
+    let same = done_so _ (c.try_extend_from_slice.ensures.variant.1 (omega arith)) c.try_extend_from_slice.ensures.ok ∙ ap (λ l. l ++ c.deref.result.now) c.clear.ensures ∙ c.deref.ensures.0 in
+    let long = ap length same in
+    record { room = omega arith; ends = ends_same _ _ same other.ends }

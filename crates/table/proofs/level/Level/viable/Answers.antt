@@ -1,6 +1,8 @@
-use Rattle.std.proofs.Common.{refl}
-use Rattle.table.proofs.Levels.{met_viable}
+use Rattle.table.proofs.Levels.{viable_so}
 use Rattle.table.proofs.level.Level.viable.Goals as goal
 
-pub returns-in-Some : goal.returns-in-Some
-returns-in-Some c = (λ _. met_viable _ _ _ _ _ c.in-Some.ensures, λ _. refl)
+pub meet-requires : goal.meet-requires
+meet-requires c = rw c.deref.ensures.0 c.args.self.now.ends
+
+pub returns : goal.returns
+returns c = rw (c.is_some.ensures, ← c.deref.ensures.0) (viable_so c.args.kind c.deref.result.now c.meet.result c.meet.ensures)

@@ -1,17 +1,18 @@
 -- The rule of the steps, proved at all of them by one test that antt computes from the table and the productions, and
 -- carried to each.
 -- Assumes nothing.
-use Rattle.std.proofs.Common.{◌≡◌, ℕ, zero, suc, ◌+◌, ◌-◌, ◌<◌, ◌≤◌, Bool, true, false, ◌&&◌, eqb, ltb, List, [], ◌∷◌, ◌++◌, get_or, sym, refl, subst, ap₂, append_assoc, arith}
+use Rattle.std.proofs.Common.{◌≡◌, ℕ, zero, suc, ◌+◌, ◌-◌, ◌<◌, ◌≤◌, Bool, true, false, ◌&&◌, eqb, ltb, leb, List, [], ◌∷◌, ◌++◌, length, reverse, get_or, slice_index, slice_index_or, sym, refl, subst, ap₂, append_assoc, arith}
 use mathlib.Core.Bool.{false≢true}
-use Rattle.std.proofs.lemmas.Bool.{and_parts, eqb-true, eqb-false, ltb-true, ltb-false}
+use Rattle.std.proofs.lemmas.List.{length-reverse}
+use Rattle.std.proofs.lemmas.Bool.{and_parts, eqb-true, eqb-false, ltb-true, ltb-false, leb-true}
 use Rattle.grammar.specs.Grammar.{IsKind, nth}
 use Rattle.grammar.specs.Sheet.{sheet}
 use Rattle.grammar.proofs.Tests.{below, at_below}
 use Rattle.table.specs.Cells.{cells}
 use Rattle.table.specs.Entry.{Entry}
 use Rattle.table.specs.Stack.{Ends, SameFor, Follows, Never}
-use Rattle.worked.proofs.Steps.{left_of, step_at}
-use Rattle.worked.proofs.Comes.{Makes, Comes}
+use Rattle.table.specs.Steps.{step_rows, left_of, step_at}
+use Rattle.table.specs.Comes.{Leaves}
 use Rattle.table.proofs.Rule.{entry_at}
 use Rattle.table.proofs.Expand.{entry_zero, entry_expands, ends_expand, ends_pop, ends_known, kind_other, kind_met}
 
@@ -34,6 +35,16 @@ alike_true (a ∷ x) (b ∷ y) e =
     let parts = and_parts (eqb a b) (alike x y) e in
     ap₂ ◌∷◌ (eqb-true a b parts.0) (alike_true x y parts.1)
 
+-- what the step of a number means: as t comes next, the symbols before the rest are rejected, vanish, or are met
+abbrev pub MakesBy : ℕ → List ℕ → List ℕ → ℕ → Type 0
+MakesBy t x rest zero = Never t (x ++ rest)
+MakesBy t x rest (suc zero) = SameFor t (x ++ rest) rest
+MakesBy t x rest (suc (suc n)) = (length (left_of n) ≤ 4) × Follows t (x ++ rest) (left_of n ++ rest) × Ends (left_of n ++ rest)
+
+-- the nonterminal a comes to the step of this number, whatever is below it
+abbrev pub ComesBy : ℕ → ℕ → ℕ → Type 0
+ComesBy a t s = (rest : List ℕ) → Ends (a ∷ rest) → MakesBy t (a ∷ []) rest s
+
 -- the number's step rejects the kind
 abbrev rejects : ℕ → Bool
 rejects zero = true
@@ -50,7 +61,7 @@ vanishes (suc (suc n)) = false
 abbrev leaves : List ℕ → ℕ → Bool
 leaves x zero = false
 leaves x (suc zero) = false
-leaves x (suc (suc n)) = ltb n 14 && alike x (left_of n)
+leaves x (suc (suc n)) = leb (length (left_of n)) 4 && alike x (left_of n)
 
 -- by whether a kind stands first, whether it is the kind that comes, and whether the entry is 0
 abbrev at_top : Bool → Bool → Bool → List ℕ → ℕ → (Unit {0} → Bool) → Bool
@@ -69,27 +80,27 @@ leads (suc n) t (a ∷ x) s =
 all_lead : below (λ i. below (λ j. leads 4 (j + 1) ((i + 16) ∷ []) (step_at (i + 16) (j + 1))) 15) 10 ≡ true
 all_lead = refl
 
-makes_vanishing : (t : ℕ) (rest : List ℕ) (s : ℕ) → vanishes s ≡ true → Makes t [] rest s
+makes_vanishing : (t : ℕ) (rest : List ℕ) (s : ℕ) → vanishes s ≡ true → MakesBy t [] rest s
 makes_vanishing t rest zero e = absurd (false≢true e)
 makes_vanishing t rest (suc zero) e = λ w. (λ d. d, λ d. d)
 makes_vanishing t rest (suc (suc n)) e = absurd (false≢true e)
 
-makes_met : (a t : ℕ) (x rest : List ℕ) (s : ℕ) → ltb a 16 ≡ true → eqb a t ≡ true → Ends (a ∷ (x ++ rest)) → leaves x s ≡ true → Makes t (a ∷ x) rest s
+makes_met : (a t : ℕ) (x rest : List ℕ) (s : ℕ) → ltb a 16 ≡ true → eqb a t ≡ true → Ends (a ∷ (x ++ rest)) → leaves x s ≡ true → MakesBy t (a ∷ x) rest s
 makes_met a t x rest zero low same ends e = absurd (false≢true e)
 makes_met a t x rest (suc zero) low same ends e = absurd (false≢true e)
 makes_met a t x rest (suc (suc n)) low same ends e =
-    let parts = and_parts (ltb n 14) (alike x (left_of n)) e in
+    let parts = and_parts (leb (length (left_of n)) 4) (alike x (left_of n)) e in
     let met = kind_met a (x ++ rest) t (ltb-true a 16 low) (eqb-true a t same) in
-    subst (λ y. (n < 14) × Follows t (a ∷ (x ++ rest)) (y ++ rest) × Ends (y ++ rest)) (alike_true x (left_of n) parts.1)
-    (ltb-true n 14 parts.0, met, ends_pop a (x ++ rest) ends)
+    subst (λ y. (length (left_of n) ≤ 4) × Follows t (a ∷ (x ++ rest)) (y ++ rest) × Ends (y ++ rest)) (alike_true x (left_of n) parts.1)
+    (leb-true (length (left_of n)) 4 parts.0, met, ends_pop a (x ++ rest) ends)
 
-makes_never : (t : ℕ) (x rest : List ℕ) (s : ℕ) → Never t (x ++ rest) → rejects s ≡ true → Makes t x rest s
+makes_never : (t : ℕ) (x rest : List ℕ) (s : ℕ) → Never t (x ++ rest) → rejects s ≡ true → MakesBy t x rest s
 makes_never t x rest zero never e = never
 makes_never t x rest (suc zero) never e = absurd (false≢true e)
 makes_never t x rest (suc (suc n)) never e = absurd (false≢true e)
 
 -- from lists of which the same is derived, the same is made
-makes_same : (t : ℕ) (x y rest : List ℕ) (s : ℕ) → SameFor t (x ++ rest) (y ++ rest) → Makes t y rest s → Makes t x rest s
+makes_same : (t : ℕ) (x y rest : List ℕ) (s : ℕ) → SameFor t (x ++ rest) (y ++ rest) → MakesBy t y rest s → MakesBy t x rest s
 makes_same t x y rest zero same h = λ w d. h w ((same w).0 d)
 makes_same t x y rest (suc zero) same h = λ w. (λ d. (h w).0 ((same w).0 d), λ d. (same w).1 ((h w).1 d))
 makes_same t x y rest (suc (suc n)) same h =
@@ -100,7 +111,7 @@ module _ (a t : ℕ) (x rest : List ℕ) (s : ℕ) (k : IsKind t) (ends : Ends (
   entry_of high = entry_at a t (ltb-false a 16 high) (ends_known (a ∷ (x ++ rest)) ends).1 k.0 k.1
 
   makes_top : (b c z : Bool) → ltb a 16 ≡ b → eqb a t ≡ c → eqb (cell a t) 0 ≡ z → (on : Unit {0} → Bool)
-      → (Ends (((nth sheet (cell a t)).right ++ x) ++ rest) → on tt ≡ true → Makes t ((nth sheet (cell a t)).right ++ x) rest s) → at_top b c z x s on ≡ true → Makes t (a ∷ x) rest s
+      → (Ends (((nth sheet (cell a t)).right ++ x) ++ rest) → on tt ≡ true → MakesBy t ((nth sheet (cell a t)).right ++ x) rest s) → at_top b c z x s on ≡ true → MakesBy t (a ∷ x) rest s
   makes_top true true z low same entry on more e = makes_met a t x rest s low same ends e
   makes_top true false z low other entry on more e =
       makes_never t (a ∷ x) rest s (kind_other a (x ++ rest) t (ltb-true a 16 low) (eqb-false a t other)) e
@@ -114,7 +125,7 @@ module _ (a t : ℕ) (x rest : List ℕ) (s : ℕ) (k : IsKind t) (ends : Ends (
       makes_same t (a ∷ x) ((nth sheet (cell a t)).right ++ x) rest s (subst (SameFor t (a ∷ (x ++ rest))) whole same) (more (subst Ends whole then) e)
 
 -- what passes the test is made
-leads_makes : (n t : ℕ) (x rest : List ℕ) (s : ℕ) → IsKind t → Ends (x ++ rest) → leads n t x s ≡ true → Makes t x rest s
+leads_makes : (n t : ℕ) (x rest : List ℕ) (s : ℕ) → IsKind t → Ends (x ++ rest) → leads n t x s ≡ true → MakesBy t x rest s
 leads_makes zero t x rest s k ends e = absurd (false≢true e)
 leads_makes (suc n) t [] rest s k ends e = makes_vanishing t rest s e
 leads_makes (suc n) t (a ∷ x) rest s k ends e =
@@ -122,10 +133,25 @@ leads_makes (suc n) t (a ∷ x) rest s k ends e =
     (λ then. leads_makes n t ((nth sheet (cell a t)).right ++ x) rest s k then) e
 
 -- the rule at each step
-pub step_at_lem : (a t : ℕ) → 16 ≤ a → a ≤ 25 → IsKind t → Comes a t (step_at a t)
+pub step_at_lem : (a t : ℕ) → 16 ≤ a → a ≤ 25 → IsKind t → ComesBy a t (step_at a t)
 step_at_lem a t low high k rest ends =
     let i : a - 16 + 16 ≡ a = omega arith in
     let j : t - 1 + 1 ≡ t = omega arith in
     let row = at_below (λ i. below (λ j. leads 4 (j + 1) ((i + 16) ∷ []) (step_at (i + 16) (j + 1))) 15) 10 (a - 16) all_lead (omega arith) in
     let one = at_below (λ j. leads 4 (j + 1) ((a - 16 + 16) ∷ []) (step_at (a - 16 + 16) (j + 1))) 15 (t - 1) row (omega arith) in
     leads_makes 4 t (a ∷ []) rest (step_at a t) k ends (subst (λ y. leads 4 y (a ∷ []) (step_at a y) ≡ true) j (subst (λ x. leads 4 (t - 1 + 1) (x ∷ []) (step_at x (t - 1 + 1)) ≡ true) i one))
+
+-- symbols that are kept the last first are what is left by their number
+pub left_kept : (a t n : ℕ) (ys rest : List ℕ) → reverse ys ≡ left_of n → Ends (a ∷ rest) → ComesBy a t (suc (suc n)) → Leaves t (a ∷ []) rest ys
+left_kept a t n ys rest is ends comes =
+    let long = length-reverse ys in
+    let h = subst (λ x. (length x ≤ 4) × Follows t (a ∷ rest) (x ++ rest) × Ends (x ++ rest)) (sym is) (comes rest ends) in
+    (omega (arith, h.0), h.1, h.2)
+
+all_few : below (λ i. below (λ j. ltb (slice_index (slice_index_or step_rows i []) j) 16) 16) 10 ≡ true
+all_few = refl
+
+-- a step's number is below 16
+pub number_few : (row column : ℕ) → row < 10 → column < 16 → slice_index (slice_index_or step_rows row []) column < 16
+number_few row column low within =
+    ltb-true _ 16 (at_below (λ j. ltb (slice_index (slice_index_or step_rows row []) j) 16) 16 column (at_below (λ i. below (λ j. ltb (slice_index (slice_index_or step_rows i []) j) 16) 16) 10 row all_few low) within)

@@ -1,5 +1,5 @@
--- What a nonterminal comes to when a kind comes next, carried through until a kind stands first, so that it computes fast:
--- a row for each nonterminal from 16 on, a column for each kind, and the first column for none. Comes says what a step means.
+-- The steps as the crate keeps them: a row for each nonterminal from 16 on, a column for each kind, and the first column
+-- for none. What they mean is said in Comes.
 -- Assumes nothing.
 use Rattle.std.specs.Prelude.{ℕ, ◌-◌, List, [], ◌∷◌, slice_index, slice_index_or}
 
@@ -37,6 +37,7 @@ lefts =
     (22 ∷ 25 ∷ 7 ∷ 23 ∷ []) ∷
     []
 
+-- the symbols of this number, the first of them first; none for a number that has none
 abbrev pub left_of : ℕ → List ℕ
 left_of n = slice_index_or lefts n []
 

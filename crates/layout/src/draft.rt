@@ -48,13 +48,7 @@ impl Draft {
         requires { self.depth ≤ length contexts.now }
         ensures { result ≡ innermost_of (contexts_of contexts.now self) }
     {
-        if self.opened.is_some() {
-            self.opened
-        } else if self.depth == 0 {
-            None
-        } else {
-            Some(contexts[self.depth - 1])
-        }
+        self.opened.or(contexts[..self.depth].last().copied())
     }
 
     // How many blocks are open.

@@ -1,7 +1,6 @@
 // The rules over one lexeme, or over the end, with the parser asked on the way.
 ghost use Rattle.std.specs.Prelude.{◌≡◌, ◌≤◌, length};
 ghost use Rattle.parser.specs.Meaning.{meaning};
-ghost use Rattle.layout.specs.Contexts.{stack};
 ghost use Rattle.layout.specs.Drafts.{Laying};
 ghost use Rattle.layout.specs.Limits.{undefined_at};
 ghost use Rattle.layout.specs.Marks.{Fitting, kind};
@@ -38,16 +37,14 @@ impl Coming {
 pub fn lay<P: Stepping>(
     parser: &mut P,
     contexts: &[u32],
-    depth: usize,
     coming: &Coming,
     mark: Option<Mark>,
 ) -> Result<Draft, Reason>
-    requires within { depth ≤ length contexts.now }
-    requires shallow { depth ≤ 64 }
+    requires shallow { length contexts.now ≤ 64 }
     requires fitting { Fitting mark coming.now }
-    ensures { Laying contexts.now (stack contexts.now depth) mark coming.now (meaning P.Stepping parser.old) (meaning P.Stepping parser.new) result }
+    ensures { Laying contexts.now mark coming.now (meaning P.Stepping parser.old) (meaning P.Stepping parser.new) result }
 {
-    let mut draft = Draft::new(depth);
+    let mut draft = Draft::new(contexts.len());
     let mut mark = mark;
     loop {
         let blocks = draft.blocks();

@@ -3,14 +3,16 @@ ghost use Rattle.std.specs.Prelude.{◌≡◌, ◌+◌, ◌^◌, ◌<◌, [], If
 ghost use Rattle.parser.specs.Meaning.{meaning, started};
 ghost use Rattle.queue.specs.Waiting.{room, SamePlaces, waiting};
 ghost use Rattle.layout.specs.Calling.{begin_answer, Calls, feed_answer, finish_answer, give_up_answer, next_of, stand, standing, Writes};
+ghost use Rattle.layout.specs.Contexts.{stacked};
+ghost use Rattle.layout.specs.First.{innermost_of};
 ghost use Rattle.layout.specs.Moves.{Took};
 ghost use Rattle.layout.specs.Service.{fault, new};
 ghost use Rattle.layout.specs.declared.call.Call.TheVariants.{Begin, Feed, Finish, GiveUp};
 
 use super::Resolver;
-use crate::draft::MOST_BLOCKS;
 use crate::rule::{Before, Coming};
 use crate::ticket::{Refusal, Ticket};
+use arrayvec::ArrayVec;
 use parser::Stepping;
 use queue::Queue;
 use sheet::{Fault, Lexeme, Place, Reason, Token};
@@ -24,20 +26,22 @@ fn following(number: u64) -> Option<u64>
 }
 
 impl<P> Resolver<P> {
+    // The innermost context.
+    pub(super) fn innermost(&self) -> Option<u32>
+        ensures { result ≡ innermost_of (stacked self.now.contexts.items) }
+    {
+        self.contexts.last().copied()
+    }
+
     // A refusal at a place, with the innermost context.
     fn fault(&self, reason: Reason, line: u32, column: u32) -> Fault
         ensures { result ≡ fault (standing self.now) line column reason }
     {
-        let context = if self.depth == 0 {
-            None
-        } else {
-            Some(self.contexts[self.depth - 1])
-        };
         Fault {
             reason,
             line,
             column,
-            context,
+            context: self.innermost(),
         }
     }
 }
@@ -52,8 +56,7 @@ impl<P: Stepping> Resolver<P> {
         parser.start();
         Resolver {
             parser,
-            contexts: [0; MOST_BLOCKS],
-            depth: 0,
+            contexts: ArrayVec::new(),
             before: Before::Nothing,
             sheet: None,
             next: Some(first),
@@ -71,7 +74,6 @@ impl<P: Stepping> Resolver<P> {
             return Err(self.fault(Reason::NumbersSpent, 0, 0));
         };
         self.parser.start();
-        self.depth = 0;
         self.before = Before::Nothing;
         self.sheet = Some(number);
         self.next = following(number);

@@ -1,7 +1,8 @@
 // What comes is tried on the parser: the parser takes its tokens, or is as before.
 ghost use Rattle.std.specs.Prelude.{◌≡◌, ℕ, ◌≤◌, [], Decides, MatchOption, None as none};
+ghost use Rattle.arrayvec.specs.ArrayVec.{array_vec_len};
 ghost use Rattle.parser.specs.Meaning.{SameMark, absent, meaning};
-ghost use Rattle.layout.specs.Contexts.{Implicit, stack};
+ghost use Rattle.layout.specs.Contexts.{Implicit, stacked};
 ghost use Rattle.layout.specs.Drafts.{alone};
 ghost use Rattle.layout.specs.Marks.{Fitting};
 ghost use Rattle.layout.specs.Moves.{Attempts, Beside, Moves, Took, WholeAt};
@@ -37,10 +38,10 @@ impl<P: Stepping> Resolver<P> {
     // refused later: the caller marks it before.
     fn attempt(&mut self, coming: &Coming, mark: Option<Mark>, free: usize) -> Result<Draft, Reason>
         requires { Fitting mark coming.now }
-        ensures told { Attempts self.old.contexts (stack self.old.contexts self.old.depth) mark coming.now free (meaning P.Stepping self.old.parser) (meaning P.Stepping self.new.parser) result }
+        ensures told { Attempts self.old.contexts.items mark coming.now free (meaning P.Stepping self.old.parser) (meaning P.Stepping self.new.parser) result }
         ensures beside { Beside self.old self.new }
     {
-        let draft = lay(&mut self.parser, &self.contexts, self.depth, coming, mark)?;
+        let draft = lay(&mut self.parser, self.contexts.as_slice(), coming, mark)?;
         if !is_whole(&self.parser, coming) {
             return Err(Reason::NotComplete);
         }
@@ -59,7 +60,7 @@ impl<P: Stepping> Resolver<P> {
         free: usize,
     ) -> Result<Draft, Reason>
         requires { Fitting mark coming.now }
-        ensures told { Moves self.old.contexts (stack self.old.contexts self.old.depth) mark coming.now free (meaning P.Stepping self.old.parser) (meaning P.Stepping self.new.parser) result }
+        ensures told { Moves self.old.contexts.items mark coming.now free (meaning P.Stepping self.old.parser) (meaning P.Stepping self.new.parser) result }
         ensures beside { Beside self.old self.new }
         ensures unmarked { SameMark (P.Stepping.saved self.new.parser) absent }
     {
@@ -74,16 +75,16 @@ impl<P: Stepping> Resolver<P> {
 
     // Whether the innermost block is implicit, so that it may close before a lexeme that is not viable.
     fn may_close(&self) -> bool
-        ensures { Decides result (Implicit (stack self.now.contexts self.now.depth)) }
+        ensures { Decides result (Implicit (stacked self.now.contexts.items)) }
     {
-        self.depth > 0 && self.contexts[self.depth - 1] > 0
+        self.innermost().is_some_and(|context| context > 0)
     }
 
     // A lexeme that has no mark and is no brace: the parser takes it at once or says why not, and nothing has to be taken
     // back. It is left open where a block may close before it.
     pub(super) fn take_directly(&mut self, lexeme: &Lexeme) -> Option<Result<(), Reason>>
         requires { Plain lexeme.now }
-        ensures told { (free : ℕ) → 1 ≤ free → MatchOption result (Took [] (meaning P.Stepping self.old.parser) (meaning P.Stepping self.new.parser)) (λ x. Moves self.old.contexts (stack self.old.contexts self.old.depth) none (lexeme' lexeme.now) free (meaning P.Stepping self.old.parser) (meaning P.Stepping self.new.parser) (alone self.old.depth x)) }
+        ensures told { (free : ℕ) → 1 ≤ free → MatchOption result (Took [] (meaning P.Stepping self.old.parser) (meaning P.Stepping self.new.parser)) (λ x. Moves self.old.contexts.items none (lexeme' lexeme.now) free (meaning P.Stepping self.old.parser) (meaning P.Stepping self.new.parser) (alone (array_vec_len self.old.contexts) x)) }
         ensures beside { Beside self.old self.new }
     {
         match self.parser.take(lexeme.kind) {

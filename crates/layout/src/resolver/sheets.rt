@@ -1,8 +1,9 @@
 // The open sheet: what is accepted of it, and how it is left where something is not.
 ghost use Rattle.std.specs.Prelude.{◌≡◌, ◌≤◌, true, [], length, is_some, Some, Decides, MatchOption, None as none};
+ghost use Rattle.arrayvec.specs.ArrayVec.{array_vec_len};
 ghost use Rattle.parser.specs.Meaning.{meaning};
 ghost use Rattle.layout.specs.Calling.{Fed, Finished, shut, stand, standing};
-ghost use Rattle.layout.specs.Contexts.{rises, stack};
+ghost use Rattle.layout.specs.Contexts.{rises, stacked};
 ghost use Rattle.layout.specs.Drafts.{alone, contexts_of};
 ghost use Rattle.layout.specs.Marks.{mark_of};
 ghost use Rattle.layout.specs.Moves.{Around, Took};
@@ -32,7 +33,7 @@ impl<P> Resolver<P> {
         ensures standing { standing self.new ≡ shut (standing self.old) }
         ensures parser { self.new.parser ≡ self.old.parser }
     {
-        self.depth = 0;
+        self.contexts.clear();
         self.sheet = None;
     }
 
@@ -48,17 +49,16 @@ impl<P> Resolver<P> {
 
     // Puts the contexts that a draft leaves in the place of the present ones.
     fn settle(&mut self, draft: Draft)
-        requires within { draft.depth ≤ self.old.depth }
-        requires room { length (contexts_of self.old.contexts draft) ≤ 64 }
-        requires rising { rises (contexts_of self.old.contexts draft) ≡ true }
+        requires within { draft.depth ≤ array_vec_len self.old.contexts }
+        requires room { length (contexts_of self.old.contexts.items draft) ≤ 64 }
+        requires rising { rises (contexts_of self.old.contexts.items draft) ≡ true }
         requires sheet { is_some self.old.sheet ≡ true }
-        ensures contexts { stack self.new.contexts self.new.depth ≡ contexts_of self.old.contexts draft }
+        ensures contexts { stacked self.new.contexts.items ≡ contexts_of self.old.contexts.items draft }
         ensures around { Around self.old self.new }
     {
-        self.depth = draft.depth;
+        self.contexts.truncate(draft.depth);
         if let Some(context) = draft.opened {
-            self.contexts[draft.depth] = context;
-            self.depth = draft.depth + 1;
+            self.contexts.push(context);
         }
     }
 }
@@ -82,7 +82,7 @@ impl<P: Stepping> Resolver<P> {
         lexeme: &Lexeme,
         free: usize,
     ) -> Option<Result<(), Reason>>
-        ensures { MatchOption result (Took [] (meaning P.Stepping self.old.parser) (meaning P.Stepping self.new.parser) × (standing self.new ≡ standing self.old)) (λ x. Fed (stand P.Stepping self.old) number lexeme.now free (stand P.Stepping self.new) (alone self.old.depth x)) }
+        ensures { MatchOption result (Took [] (meaning P.Stepping self.old.parser) (meaning P.Stepping self.new.parser) × (standing self.new ≡ standing self.old)) (λ x. Fed (stand P.Stepping self.old) number lexeme.now free (stand P.Stepping self.new) (alone (array_vec_len self.old.contexts) x)) }
     {
         if !self.is_direct(number, lexeme, free) {
             return None;

@@ -1,8 +1,7 @@
 use Rattle.std.proofs.Common.{◌≡◌, ℕ, List, [], length, Ok, Err, Result, sym, ap, ◌∙◌, subst, arith}
 use Rattle.std.proofs.lemmas.Result.{err_from_is_err_and}
-use Rattle.parser.specs.Meaning.{Meaning, meaning}
+use Rattle.parser.specs.Meaning.{Meaning}
 use Rattle.sheet.specs.declared.fault.Reason.{Reason}
-use Rattle.layout.specs.Contexts.{stack}
 use Rattle.layout.specs.Drafts.{Inserted, Laying, NextAll, Step, contexts_of}
 use Rattle.layout.specs.Marks.{kind}
 use Rattle.layout.specs.Rules.{Applies, inserting, leaves, onward}
@@ -12,7 +11,6 @@ use Rattle.layout.specs.declared.rule.Onward.{Onward}
 use Rattle.layout.specs.declared.rule.Onward.TheVariants.{Mark as at_mark, Lexeme as lexeme_written, End as ended, Undefined as undefined}
 use Rattle.layout.proofs.Exits.{ended_at, exit_undefined, refused_at, written_at}
 use Rattle.layout.proofs.Running.{at_some, inserted_contexts, inserting_few, mark_in, phase_next, rank, rule_rank, running_more, running_new, running_stops, same_stand, still_single}
-use Rattle.layout.proofs.Stacks.{length_stack}
 use Rattle.layout.proofs.lay.lay.Given as given
 use Rattle.layout.proofs.lay.lay.Goals as goal
 use Rattle.layout.proofs.lay.lay.Goals.{After-insert_all, After-onward, After-rule_at-rule}
@@ -35,13 +33,13 @@ insertion g c o x =
     (subst (λ (ts : List Insert). Inserted ts c.blocks-blocks.result c.loop-inserted.draft (of g c.loop-inserted.parser) (of g c.insert_all.new.parser) o) c.inserting.ensures x)
 
 pub blocks-blocks-requires : goal.blocks-blocks-requires
-blocks-blocks-requires g c = omega (arith, c.loop-inserted.invariant.stands.shallow, length_stack c.args.contexts.now c.args.depth, c.requires.shallow)
+blocks-blocks-requires g c = omega (arith, c.loop-inserted.invariant.stands.shallow, c.requires.shallow)
 
 pub innermost-requires : goal.innermost-requires
-innermost-requires g c = omega (arith, c.loop-inserted.invariant.stands.shallow, length_stack c.args.contexts.now c.args.depth, c.requires.within)
+innermost-requires g c = c.loop-inserted.invariant.stands.shallow
 
 pub loop-inserted-init : goal.loop-inserted-init
-loop-inserted-init g c = running_new c.args.contexts.now c.args.depth c.args.mark c.args.coming.now (of g c.args.parser.now) c.new-draft.result c.new-draft.ensures.depth c.new-draft.ensures.opened c.new-draft.ensures.row c.requires.shallow c.requires.fitting
+loop-inserted-init g c = running_new c.args.contexts.now c.args.mark c.args.coming.now (of g c.args.parser.now) c.new-draft.result c.new-draft.ensures.depth c.new-draft.ensures.opened c.new-draft.ensures.row c.requires.shallow c.requires.fitting
 
 pub insert_all-requires : goal.insert_all-requires
 insert_all-requires g c =
@@ -57,8 +55,8 @@ returns-in_err-inserted g c =
     let rule = (goal.at.returns-in_err-inserted g c).After-rule_at-rule in
     let turned = err_from_is_err_and c.from_residual.result c.from_residual.ensures.1 in
     let why = c.in_err-inserted.field-0.0 in
-    subst (Laying c.args.contexts.now (stack c.args.contexts.now c.args.depth) c.args.mark c.args.coming.now (of g c.args.parser.now) (of g c.insert_all.new.parser)) (sym (turned.1 ∙ ap Err turned.2))
-    (running_stops c.args.contexts.now (stack c.args.contexts.now c.args.depth) c.args.mark c.args.coming.now (of g c.args.parser.now) c.loop-inserted.draft c.loop-inserted.mark (of g c.loop-inserted.parser) c.rule_at-rule.result
+    subst (Laying c.args.contexts.now c.args.mark c.args.coming.now (of g c.args.parser.now) (of g c.insert_all.new.parser)) (sym (turned.1 ∙ ap Err turned.2))
+    (running_stops c.args.contexts.now c.args.mark c.args.coming.now (of g c.args.parser.now) c.loop-inserted.draft c.loop-inserted.mark (of g c.loop-inserted.parser) c.rule_at-rule.result
     c.loop-inserted.invariant (applies g rule) (of g c.insert_all.new.parser) why (insertion g at (Err why) c.in_err-inserted.ensures))
 
 -- how the rule goes on
@@ -84,7 +82,7 @@ loop-inserted-preserved g c =
     let rule = (goal.at.loop-inserted-preserved g c).After-rule_at-rule in
     let e = c.in_ok-inserted.inserted in
     let told = c.after-draft.ensures in
-    running_more cs (stack cs c.args.depth) c.args.mark c.args.coming.now (of g c.args.parser.now) c.loop-inserted.draft c.loop-inserted.mark (of g c.loop-inserted.parser) c.rule_at-rule.result
+    running_more cs c.args.mark c.args.coming.now (of g c.args.parser.now) c.loop-inserted.draft c.loop-inserted.mark (of g c.loop-inserted.parser) c.rule_at-rule.result
     c.loop-inserted.invariant (applies g rule) (of g c.insert_all.new.parser) e c.after-draft.result c.in-Mark.next (goes_on g (goal.at.loop-inserted-preserved g c).After-onward (at_mark c.in-Mark.next) c.in-Mark.is)
     (insertion g at (Ok e) c.in_ok-inserted.ensures) told.tokens (told.contexts cs ∙ ap (λ n. leaves c.rule_at-rule.result n (contexts_of cs e)) c.column-in-loop-inserted.ensures) told.depth told.opened told.row
 
@@ -99,7 +97,6 @@ loop-inserted-smaller g c =
 pub returns-in-Lexeme : goal.returns-in-Lexeme
 returns-in-Lexeme g c =
     let cs = c.args.contexts.now in
-    let ks = stack cs c.args.depth in
     let d = c.loop-inserted.draft in
     let e = c.in_ok-inserted.inserted in
     let r = c.rule_at-rule.result in
@@ -107,18 +104,17 @@ returns-in-Lexeme g c =
     let now = of g c.loop-inserted.parser in
     let mid = of g c.insert_all.new.parser in
     let on = goes_on g (goal.at.returns-in-Lexeme g c).After-onward lexeme_written c.in-Lexeme.is in
-    let stood = same_stand cs ks c.args.mark c.args.coming.now before d c.loop-inserted.mark now r c.loop-inserted.invariant (applies g (goal.at.returns-in-Lexeme g c).After-rule_at-rule) mid e (ap at_some on)
+    let stood = same_stand cs c.args.mark c.args.coming.now before d c.loop-inserted.mark now r c.loop-inserted.invariant (applies g (goal.at.returns-in-Lexeme g c).After-rule_at-rule) mid e (ap at_some on)
     (insertion g (goal.at.returns-in-Lexeme g c).After-insert_all (Ok e) c.in_ok-inserted.ensures) in
     let next = of g c.take_token.new.parser in
     let told = c.after.ensures in
-    written_at cs ks c.args.mark before e c.loop-inserted.mark mid r c.args.coming.now stood.0 stood.2 on next c.after.result
+    written_at cs c.args.mark before e c.loop-inserted.mark mid r c.args.coming.now stood.0 stood.2 on next c.after.result
     (subst (λ n. Step (kind c.args.coming.now) n mid next (Ok tt)) (c.blocks-blocks.ensures cs ∙ sym stood.1) (subst (λ k. Step k c.blocks-blocks.result mid next (Ok tt)) c.kind.ensures c.in_ok-take_token-in-Lexeme.ensures))
     told.tokens (told.contexts cs ∙ ap (λ n. leaves r n (contexts_of cs e)) c.column.ensures) told.depth
 
 pub returns-in_err-take_token-in-Lexeme : goal.returns-in_err-take_token-in-Lexeme
 returns-in_err-take_token-in-Lexeme g c =
     let cs = c.args.contexts.now in
-    let ks = stack cs c.args.depth in
     let d = c.loop-inserted.draft in
     let e = c.in_ok-inserted.inserted in
     let r = c.rule_at-rule.result in
@@ -126,19 +122,18 @@ returns-in_err-take_token-in-Lexeme g c =
     let now = of g c.loop-inserted.parser in
     let mid = of g c.insert_all.new.parser in
     let on = goes_on g (goal.at.returns-in_err-take_token-in-Lexeme g c).After-onward lexeme_written c.in-Lexeme.is in
-    let stood = same_stand cs ks c.args.mark c.args.coming.now before d c.loop-inserted.mark now r c.loop-inserted.invariant (applies g (goal.at.returns-in_err-take_token-in-Lexeme g c).After-rule_at-rule) mid e (ap at_some on)
+    let stood = same_stand cs c.args.mark c.args.coming.now before d c.loop-inserted.mark now r c.loop-inserted.invariant (applies g (goal.at.returns-in_err-take_token-in-Lexeme g c).After-rule_at-rule) mid e (ap at_some on)
     (insertion g (goal.at.returns-in_err-take_token-in-Lexeme g c).After-insert_all (Ok e) c.in_ok-inserted.ensures) in
     let next = of g c.take_token.new.parser in
     let why = c.in_err-take_token-in-Lexeme.field-0.0 in
     let turned = err_from_is_err_and c.from_residual-in_err-take_token-in-Lexeme.result c.from_residual-in_err-take_token-in-Lexeme.ensures.1 in
-    subst (Laying cs ks c.args.mark c.args.coming.now before next) (sym (turned.1 ∙ ap Err turned.2))
-    (refused_at cs ks c.args.mark before e c.loop-inserted.mark mid r c.args.coming.now stood.0 stood.2 on next why
+    subst (Laying cs c.args.mark c.args.coming.now before next) (sym (turned.1 ∙ ap Err turned.2))
+    (refused_at cs c.args.mark before e c.loop-inserted.mark mid r c.args.coming.now stood.0 stood.2 on next why
     (subst (λ n. Step (kind c.args.coming.now) n mid next (Err why)) (c.blocks-blocks.ensures cs ∙ sym stood.1) (subst (λ k. Step k c.blocks-blocks.result mid next (Err why)) c.kind.ensures c.in_err-take_token-in-Lexeme.ensures)))
 
 pub returns-in-End : goal.returns-in-End
 returns-in-End g c =
     let cs = c.args.contexts.now in
-    let ks = stack cs c.args.depth in
     let d = c.loop-inserted.draft in
     let e = c.in_ok-inserted.inserted in
     let r = c.rule_at-rule.result in
@@ -146,14 +141,13 @@ returns-in-End g c =
     let now = of g c.loop-inserted.parser in
     let mid = of g c.insert_all.new.parser in
     let on = goes_on g (goal.at.returns-in-End g c).After-onward ended c.in-End.is in
-    let stood = same_stand cs ks c.args.mark c.args.coming.now before d c.loop-inserted.mark now r c.loop-inserted.invariant (applies g (goal.at.returns-in-End g c).After-rule_at-rule) mid e (ap at_some on)
+    let stood = same_stand cs c.args.mark c.args.coming.now before d c.loop-inserted.mark now r c.loop-inserted.invariant (applies g (goal.at.returns-in-End g c).After-rule_at-rule) mid e (ap at_some on)
     (insertion g (goal.at.returns-in-End g c).After-insert_all (Ok e) c.in_ok-inserted.ensures) in
-    ended_at cs ks c.args.mark before e c.loop-inserted.mark mid r c.args.coming.now stood.0 stood.2 on
+    ended_at cs c.args.mark before e c.loop-inserted.mark mid r c.args.coming.now stood.0 stood.2 on
 
 pub returns-in-Undefined : goal.returns-in-Undefined
 returns-in-Undefined g c =
     let cs = c.args.contexts.now in
-    let ks = stack cs c.args.depth in
     let d = c.loop-inserted.draft in
     let e = c.in_ok-inserted.inserted in
     let r = c.rule_at-rule.result in
@@ -161,7 +155,7 @@ returns-in-Undefined g c =
     let now = of g c.loop-inserted.parser in
     let mid = of g c.insert_all.new.parser in
     let on = goes_on g (goal.at.returns-in-Undefined g c).After-onward undefined c.in-Undefined.is in
-    let stood = same_stand cs ks c.args.mark c.args.coming.now before d c.loop-inserted.mark now r c.loop-inserted.invariant (applies g (goal.at.returns-in-Undefined g c).After-rule_at-rule) mid e (ap at_some on)
+    let stood = same_stand cs c.args.mark c.args.coming.now before d c.loop-inserted.mark now r c.loop-inserted.invariant (applies g (goal.at.returns-in-Undefined g c).After-rule_at-rule) mid e (ap at_some on)
     (insertion g (goal.at.returns-in-Undefined g c).After-insert_all (Ok e) c.in_ok-inserted.ensures) in
-    subst (λ why. Laying cs ks c.args.mark c.args.coming.now before mid (Err why)) (sym c.undefined.ensures)
-    (exit_undefined cs ks c.args.mark before e c.loop-inserted.mark mid r c.args.coming.now stood.0 stood.2 on)
+    subst (λ why. Laying cs c.args.mark c.args.coming.now before mid (Err why)) (sym c.undefined.ensures)
+    (exit_undefined cs c.args.mark before e c.loop-inserted.mark mid r c.args.coming.now stood.0 stood.2 on)

@@ -1,8 +1,9 @@
 use Rattle.std.proofs.Common.{◌≡◌, [], Ok, Err, Result, sym, subst, Option}
-use Rattle.parser.specs.Meaning.{Meaning, meaning}
+use Rattle.parser.specs.Meaning.{Meaning}
 use Rattle.sheet.specs.declared.fault.Reason.{Reason}
 use Rattle.layout.specs.Calling.{next_of, standing}
-use Rattle.layout.specs.Contexts.{stack}
+use Rattle.arrayvec.specs.ArrayVec.{array_vec_len}
+use Rattle.layout.specs.Contexts.{stacked}
 use Rattle.layout.specs.Drafts.{alone, empty}
 use Rattle.layout.specs.Marks.{mark_of}
 use Rattle.layout.specs.Moves.{Moves}
@@ -20,14 +21,14 @@ of g p = means g.P.Stepping g.P.Probing p
 
 -- what was taken, at the mark that the lexeme has
 moved : (g : given.Over) (c : In-Some g) (x : Result (Unit {0}) Reason) → c.in-Some.taken ≡ x
-    → Moves c.args.self.now.contexts (stack c.args.self.now.contexts c.args.self.now.depth) (mark_of c.args.self.now.before c.args.lexeme.now) (lexeme c.args.lexeme.now) c.args.free
-    (of g c.args.self.now.parser) (of g c.take_directly.new.self.parser) (alone c.args.self.now.depth x)
+    → Moves c.args.self.now.contexts.items (mark_of c.args.self.now.before c.args.lexeme.now) (lexeme c.args.lexeme.now) c.args.free
+    (of g c.args.self.now.parser) (of g c.take_directly.new.self.parser) (alone (array_vec_len c.args.self.now.contexts) x)
 moved g c x is =
     let r = c.args.self.now in
     let q = c.take_directly.new.self in
     let go = c.is_direct.ensures c.if-not-is_direct.false in
-    subst (λ (y : Result (Unit {0}) Reason). Moves r.contexts (stack r.contexts r.depth) (mark_of r.before c.args.lexeme.now) (lexeme c.args.lexeme.now) c.args.free (of g r.parser) (of g q.parser) (alone r.depth y)) is
-    (subst (λ (k : Option Mark). Moves r.contexts (stack r.contexts r.depth) k (lexeme c.args.lexeme.now) c.args.free (of g r.parser) (of g q.parser) (alone r.depth c.in-Some.taken)) (sym go.3) (c.in-Some.ensures.told c.args.free go.0))
+    subst (λ (y : Result (Unit {0}) Reason). Moves r.contexts.items (mark_of r.before c.args.lexeme.now) (lexeme c.args.lexeme.now) c.args.free (of g r.parser) (of g q.parser) (alone (array_vec_len r.contexts) y)) is
+    (subst (λ (k : Option Mark). Moves r.contexts.items k (lexeme c.args.lexeme.now) c.args.free (of g r.parser) (of g q.parser) (alone (array_vec_len r.contexts) c.in-Some.taken)) (sym go.3) (c.in-Some.ensures.told c.args.free go.0))
 
 pub returns-in-None : goal.returns-in-None
 returns-in-None g c =
@@ -40,8 +41,8 @@ returns-in-Ok g c =
     let q = c.take_directly.new.self in
     let go = c.is_direct.ensures c.if-not-is_direct.false in
     let beside = c.take_directly.ensures.beside in
-    fed_accepted r (of g r.parser) (of g q.parser) c.args.number c.args.free c.args.lexeme.now _ (empty r.depth) go.1 go.2
-    (λ i. record { sheet = beside.sheet i; next = next_of (beside.next i); contexts = stack (beside.contexts i) (beside.depth i); before = c.after-self.ensures i; written = [] })
+    fed_accepted r (of g r.parser) (of g q.parser) c.args.number c.args.free c.args.lexeme.now _ (empty (array_vec_len r.contexts)) go.1 go.2
+    (λ i. record { sheet = beside.sheet i; next = next_of (beside.next i); contexts = stacked (beside.contexts i).items; before = c.after-self.ensures i; written = [] })
     (moved g (goal.at.returns-in-Ok g c).In-Some (Ok c.in-Ok.field-0) c.in-Ok.is)
 
 pub returns-in-Err : goal.returns-in-Err

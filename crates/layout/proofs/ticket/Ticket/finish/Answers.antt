@@ -1,5 +1,5 @@
 use Rattle.std.proofs.Common.{ℕ, Ok, Err, refl, subst, arith}
-use Rattle.parser.specs.Meaning.{Meaning, meaning}
+use Rattle.parser.specs.Meaning.{Meaning}
 use Rattle.queue.specs.Waiting.{waiting}
 use Rattle.layout.specs.Calling.{Finished, over, standing}
 use Rattle.layout.proofs.Answered.{finished_denied, finished_room, finished_writes}

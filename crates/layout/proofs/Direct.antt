@@ -16,7 +16,7 @@ use Rattle.layout.specs.declared.rule.Coming.TheVariants.{Lexeme as lexeme}
 use Rattle.layout.specs.declared.rule.Rule.TheVariants.{WriteLexeme}
 use Rattle.layout.proofs.Exits.{exit_refused, exit_written}
 use Rattle.layout.proofs.Running.{Running, running_new}
-use Rattle.layout.proofs.Written.{count_lexeme}
+use Rattle.layout.proofs.Written.{count_drafted}
 
 -- no block closes before a viable kind, nor where the innermost is not implicit
 viable_stays : (G : Lists) (u : List ℕ) (t : ℕ) (ks : List ℕ) → Viable G u t → MustClose G u t ks → ⊥
@@ -55,7 +55,7 @@ module _ (cs : List ℕ) (l : Lexeme) (m n : Meaning) (d : Draft) (plain : Plain
   -- what was laid is accepted where a place is free
   accepted : (free : ℕ) → 1 ≤ free → Laying cs nothing (lexeme l) m n (Ok d) → Moves cs nothing (lexeme l) free m n (Ok d)
   accepted free some (drafts.laid x r tokens contexts shallow so) =
-      Moves.accepted x (Tries.fits r tt (omega (arith, ap length tokens, count_lexeme (lexeme l) d refl, ap length none_written))) tokens contexts shallow (record { language = so.language; reach = so.reach; remainder = so.remainder; left = so.left })
+      Moves.accepted x (Tries.fits r tt (omega (arith, ap length tokens, count_drafted (lexeme l) d, ap length none_written))) tokens contexts shallow (record { language = so.language; reach = so.reach; remainder = so.remainder; left = so.left })
 
   stopped : (free : ℕ) (why : Reason) → Alike n m → Laying cs nothing (lexeme l) m n (Err why) → Moves cs nothing (lexeme l) free m n (Err why)
   stopped free why same (drafts.stopped r b) = Moves.refused (Tries.stopped r) (took_same m n same)

@@ -72,7 +72,7 @@ way lexeme_written = 1
 way ended = 2
 way undefined = 3
 
-no_lexeme : {G : Lists} {u : List ℕ} {m : Option Mark} {p : Place} {ks : List ℕ} {r : Rule} → Applies G u m (ending p) ks r → onward r ≡ lexeme_written → ⊥
+pub no_lexeme : {G : Lists} {u : List ℕ} {m : Option Mark} {p : Place} {ks : List ℕ} {r : Rule} → Applies G u m (ending p) ks r → onward r ≡ lexeme_written → ⊥
 no_lexeme (separate e) on = omega (arith, ap way on)
 no_lexeme (close_shallower h) on = omega (arith, ap way on)
 no_lexeme (drop_deeper h) on = omega (arith, ap way on)

@@ -1,6 +1,7 @@
 -- The contexts of a draft. Assumes nothing.
 use Rattle.std.proofs.Common.{◌≡◌, ℕ, zero, suc, ◌+◌, ◌-◌, ◌<◌, ◌≤◌, Bool, true, false, cond, eqb, ltb, List, [], ◌∷◌, ◌++◌, length, get_or, take, drop, is_some, Some, None, Option, sym, refl, ap, ◌∙◌, add-one, arith, length-append, length-take}
 use Rattle.std.proofs.Math.Seq.{get_or-append_seam}
+use mir.Val.{bool_byte}
 use Rattle.std.proofs.lemmas.Bool.{cond_both, eq-eqb, eqb-true, false≢true, ltb-false, ltb-true, ne_eqb, true≢false}
 use Rattle.std.proofs.lemmas.List.{get_or_append_left, take-append-drop, take_all}
 use Rattle.std.proofs.lemmas.List.Sums.{count_by_more_no, count_by_more_yes, length-filter}
@@ -21,9 +22,9 @@ pub opened_none : (o : Option ℕ) (ks : List ℕ) → is_some o ≡ false → w
 opened_none None ks e = refl
 opened_none (Some k) ks e = absurd (true≢false e)
 
-pub opened_some : (o : Option ℕ) (ks : List ℕ) → is_some o ≡ true → length (with_opened o ks) ≡ suc (length ks)
-opened_some None ks e = absurd (false≢true e)
-opened_some (Some k) ks e = refl
+pub opened_length : (o : Option ℕ) (ks : List ℕ) → length (with_opened o ks) ≡ length ks + bool_byte (is_some o)
+opened_length None ks = omega arith
+opened_length (Some k) ks = omega arith
 
 -- contexts behind the first do not show
 pub stack_front : (xs ys : List ℕ) (d : ℕ) → d ≤ length xs → stack (xs ++ ys) d ≡ stack xs d

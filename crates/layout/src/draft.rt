@@ -56,26 +56,18 @@ impl Draft {
         requires { self.depth ≤ 64 }
         ensures { (cs : List ℕ) → result ≡ length (contexts_of cs self) }
     {
-        if self.opened.is_some() {
-            self.depth + 1
-        } else {
-            self.depth
-        }
+        self.depth + usize::from(self.opened.is_some())
     }
 
     // How many tokens are written of what comes: those inserted before it, and the lexeme itself.
     pub fn count(self, coming: &Coming) -> usize
         ensures { result ≡ length (drafted_tokens coming.now self) }
     {
-        let inserted = usize::from(self.brace)
+        usize::from(self.brace)
             + self.closes as usize
             + usize::from(self.separator)
-            + self.closes_after as usize;
-        if coming.is_end() {
-            inserted
-        } else {
-            inserted + 1
-        }
+            + self.closes_after as usize
+            + usize::from(!coming.is_end())
     }
 
     // Without the innermost block.
@@ -175,7 +167,7 @@ fn has_room(kind: u32, blocks: usize) -> bool
     kind != Kind::OpenBrace.number() || blocks < MOST_BLOCKS
 }
 
-// A parser's refusal as a fault's reason.
+// A parser's refusal as a fault's reason. Neither type is of this crate, so no `From` can stand here.
 fn reason_of(refused: Refused) -> Reason
     ensures { result ≡ reason_of refused }
 {
@@ -192,10 +184,7 @@ pub fn take_token<P: Stepping>(parser: &mut P, kind: u32, blocks: usize) -> Resu
     if !has_room(kind, blocks) {
         return Err(Reason::TooDeep);
     }
-    match parser.take(kind) {
-        Ok(()) => Ok(()),
-        Err(refused) => Err(reason_of(refused)),
-    }
+    parser.take(kind).map_err(reason_of)
 }
 
 // Has the parser take inserted tokens one after another, and drafts them.

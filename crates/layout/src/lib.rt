@@ -7,6 +7,7 @@ mod call;
 mod draft;
 mod journal;
 mod lay;
+mod marked;
 mod resolver;
 mod rule;
 mod ticket;

@@ -17,6 +17,9 @@ use parser::Stepping;
 use queue::Queue;
 use sheet::{Fault, Lexeme, Place, Reason, Token};
 
+// The place of a refusal that no place of a sheet was given for.
+const NOWHERE: Place = Place { line: 0, column: 0 };
+
 // The number after another, if there is any.
 fn following(number: u64) -> Option<u64>
     ensures range { number < 2 ^ 64 }
@@ -34,13 +37,13 @@ impl<P> Resolver<P> {
     }
 
     // A refusal at a place, with the innermost context.
-    fn fault(&self, reason: Reason, line: u32, column: u32) -> Fault
-        ensures { result ≡ fault (standing self.now) line column reason }
+    fn fault(&self, reason: Reason, place: Place) -> Fault
+        ensures { result ≡ fault (standing self.now) place.line place.column reason }
     {
         Fault {
             reason,
-            line,
-            column,
+            line: place.line,
+            column: place.column,
             context: self.innermost(),
         }
     }
@@ -68,10 +71,10 @@ impl<P: Stepping> Resolver<P> {
         ensures { Calls (stand P.Stepping self.old) Begin (begin_answer result) [] (stand P.Stepping self.new) }
     {
         if self.sheet.is_some() {
-            return Err(self.fault(Reason::SheetOpen, 0, 0));
+            return Err(self.fault(Reason::SheetOpen, NOWHERE));
         }
         let Some(number) = self.next else {
-            return Err(self.fault(Reason::NumbersSpent, 0, 0));
+            return Err(self.fault(Reason::NumbersSpent, NOWHERE));
         };
         self.parser.start();
         self.before = Before::Nothing;
@@ -93,13 +96,11 @@ impl Ticket {
         ensures places { SamePlaces queue.old queue.new }
     {
         match resolver.feed_directly(self.number, &lexeme, queue.free()) {
-            Some(fed) => match fed {
-                Ok(()) => {
-                    let _ = queue.put(Token::from(lexeme));
-                    Ok(1)
-                }
-                Err(reason) => Err(resolver.fault(reason, lexeme.line, lexeme.column)),
-            },
+            Some(Ok(())) => {
+                let _ = queue.put(Token::from(lexeme));
+                Ok(1)
+            }
+            Some(Err(reason)) => Err(resolver.fault(reason, lexeme.place())),
             None => self.feed_by_rules(resolver, lexeme, queue),
         }
     }
@@ -115,12 +116,8 @@ impl Ticket {
         ensures places { SamePlaces queue.old queue.new }
     {
         match resolver.feed_lexeme(self.number, lexeme, queue.free()) {
-            Ok(draft) => {
-                let coming = Coming::Lexeme(lexeme);
-                draft.write(&coming, queue);
-                Ok(draft.count(&coming))
-            }
-            Err(reason) => Err(resolver.fault(reason, lexeme.line, lexeme.column)),
+            Ok(draft) => Ok(draft.write(&Coming::Lexeme(lexeme), queue)),
+            Err(reason) => Err(resolver.fault(reason, lexeme.place())),
         }
     }
 
@@ -139,13 +136,11 @@ impl Ticket {
         match resolver.finish_sheet(self.number, end, queue.free()) {
             Ok(draft) => {
                 let Ticket { number: _ } = self;
-                let coming = Coming::End(end);
-                draft.write(&coming, queue);
-                Ok(draft.count(&coming))
+                Ok(draft.write(&Coming::End(end), queue))
             }
             Err(reason) => Err(Refusal {
                 ticket: self,
-                fault: resolver.fault(reason, end.line, end.column),
+                fault: resolver.fault(reason, end),
             }),
         }
     }
@@ -158,7 +153,7 @@ impl Ticket {
         if !resolver.is_open(self.number) {
             return Err(Refusal {
                 ticket: self,
-                fault: resolver.fault(Reason::WrongTicket, 0, 0),
+                fault: resolver.fault(Reason::WrongTicket, NOWHERE),
             });
         }
         let Ticket { number: _ } = self;

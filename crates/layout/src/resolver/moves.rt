@@ -4,7 +4,6 @@ ghost use Rattle.arrayvec.specs.ArrayVec.{array_vec_len};
 ghost use Rattle.parser.specs.Meaning.{SameMark, absent, meaning};
 ghost use Rattle.layout.specs.Contexts.{Implicit, stacked};
 ghost use Rattle.layout.specs.Drafts.{alone};
-ghost use Rattle.layout.specs.Marks.{Fitting};
 ghost use Rattle.layout.specs.Moves.{Attempts, Beside, Moves, Took, WholeAt};
 ghost use Rattle.layout.specs.Rules.{Plain};
 ghost use Rattle.layout.specs.declared.rule.Coming.TheVariants.{Lexeme as lexeme'};
@@ -12,7 +11,8 @@ ghost use Rattle.layout.specs.declared.rule.Coming.TheVariants.{Lexeme as lexeme
 use super::Resolver;
 use crate::draft::Draft;
 use crate::lay::lay;
-use crate::rule::{Coming, Mark};
+use crate::marked::Marked;
+use crate::rule::Coming;
 use parser::{Probing, Refused, Stepping};
 use sheet::{Kind, Lexeme, Reason};
 
@@ -36,16 +36,15 @@ pub(super) fn is_plain(lexeme: &Lexeme) -> bool
 impl<P: Stepping> Resolver<P> {
     // The rules over what comes, with the parser asked on the way. The parser takes the tokens also where they are
     // refused later: the caller marks it before.
-    fn attempt(&mut self, coming: &Coming, mark: Option<Mark>, free: usize) -> Result<Draft, Reason>
-        requires { Fitting mark coming.now }
-        ensures told { Attempts self.old.contexts.items mark coming.now free (meaning P.Stepping self.old.parser) (meaning P.Stepping self.new.parser) result }
+    fn attempt(&mut self, marked: &Marked, free: usize) -> Result<Draft, Reason>
+        ensures told { Attempts self.old.contexts.items marked.now.mark marked.now.coming free (meaning P.Stepping self.old.parser) (meaning P.Stepping self.new.parser) result }
         ensures beside { Beside self.old self.new }
     {
-        let draft = lay(&mut self.parser, self.contexts.as_slice(), coming, mark)?;
-        if !is_whole(&self.parser, coming) {
+        let draft = lay(&mut self.parser, self.contexts.as_slice(), marked)?;
+        if !is_whole(&self.parser, &marked.coming) {
             return Err(Reason::NotComplete);
         }
-        if free < draft.count(coming) {
+        if free < draft.count(&marked.coming) {
             return Err(Reason::NoRoom);
         }
         Ok(draft)
@@ -53,19 +52,13 @@ impl<P: Stepping> Resolver<P> {
 
     // The rules over what comes: the parser takes the tokens if all is accepted, and else is as before. It is left
     // without a mark.
-    pub(super) fn advance(
-        &mut self,
-        coming: &Coming,
-        mark: Option<Mark>,
-        free: usize,
-    ) -> Result<Draft, Reason>
-        requires { Fitting mark coming.now }
-        ensures told { Moves self.old.contexts.items mark coming.now free (meaning P.Stepping self.old.parser) (meaning P.Stepping self.new.parser) result }
+    pub(super) fn advance(&mut self, marked: &Marked, free: usize) -> Result<Draft, Reason>
+        ensures told { Moves self.old.contexts.items marked.now.mark marked.now.coming free (meaning P.Stepping self.old.parser) (meaning P.Stepping self.new.parser) result }
         ensures beside { Beside self.old self.new }
         ensures unmarked { SameMark (P.Stepping.saved self.new.parser) absent }
     {
         self.parser.mark();
-        let tried = self.attempt(coming, mark, free);
+        let tried = self.attempt(marked, free);
         match tried {
             Ok(_) => self.parser.keep(),
             Err(_) => self.parser.back(),
@@ -89,16 +82,9 @@ impl<P: Stepping> Resolver<P> {
     {
         match self.parser.take(lexeme.kind) {
             Ok(()) => Some(Ok(())),
-            Err(refused) => match refused {
-                Refused::ReachSpent => Some(Err(Reason::ReachSpent)),
-                Refused::NotViable => {
-                    if self.may_close() {
-                        None
-                    } else {
-                        Some(Err(Reason::NotViable))
-                    }
-                }
-            },
+            Err(Refused::ReachSpent) => Some(Err(Reason::ReachSpent)),
+            Err(Refused::NotViable) if self.may_close() => None,
+            Err(Refused::NotViable) => Some(Err(Reason::NotViable)),
         }
     }
 }

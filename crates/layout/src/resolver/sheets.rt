@@ -13,7 +13,8 @@ ghost use Rattle.layout.specs.Service.{Good};
 use super::Resolver;
 use super::moves::is_plain;
 use crate::draft::Draft;
-use crate::rule::{Before, Coming};
+use crate::marked::Marked;
+use crate::rule::Before;
 use parser::Stepping;
 use sheet::{Lexeme, Place, Reason};
 
@@ -24,7 +25,7 @@ const LAST_COLUMN: u32 = 4095;
 fn is_good(lexeme: &Lexeme) -> bool
     ensures { Decides result (Good lexeme.now) }
 {
-    lexeme.kind >= 1 && lexeme.kind <= 15 && lexeme.column >= 1 && lexeme.column <= LAST_COLUMN
+    (1..=15).contains(&lexeme.kind) && (1..=LAST_COLUMN).contains(&lexeme.column)
 }
 
 impl<P> Resolver<P> {
@@ -41,10 +42,7 @@ impl<P> Resolver<P> {
     pub(super) fn is_open(&self, number: u64) -> bool
         ensures { Decides result (self.now.sheet ≡ Some number) }
     {
-        match self.sheet {
-            Some(open) => open == number,
-            None => false,
-        }
+        self.sheet == Some(number)
     }
 
     // Puts the contexts that a draft leaves in the place of the present ones.
@@ -89,13 +87,11 @@ impl<P: Stepping> Resolver<P> {
         }
         match self.take_directly(lexeme) {
             None => None,
-            Some(taken) => match taken {
-                Ok(()) => {
-                    self.before = Before::after(lexeme.kind);
-                    Some(Ok(()))
-                }
-                Err(reason) => Some(Err(reason)),
-            },
+            Some(Err(reason)) => Some(Err(reason)),
+            Some(Ok(())) => {
+                self.before = Before::after(lexeme.kind);
+                Some(Ok(()))
+            }
         }
     }
 
@@ -114,8 +110,8 @@ impl<P: Stepping> Resolver<P> {
         if !is_good(&lexeme) {
             return Err(Reason::BadLexeme);
         }
-        let mark = self.before.mark_of(&lexeme);
-        let draft = self.advance(&Coming::Lexeme(lexeme), mark, free)?;
+        let marked = Marked::lexeme(self.before, lexeme);
+        let draft = self.advance(&marked, free)?;
         self.settle(draft);
         self.before = Before::after(lexeme.kind);
         Ok(draft)
@@ -133,8 +129,8 @@ impl<P: Stepping> Resolver<P> {
         if !self.is_open(number) {
             return Err(Reason::WrongTicket);
         }
-        let mark = self.before.end_mark();
-        let draft = self.advance(&Coming::End(end), mark, free)?;
+        let marked = Marked::end(self.before, end);
+        let draft = self.advance(&marked, free)?;
         self.close();
         Ok(draft)
     }

@@ -6,7 +6,7 @@ use Rattle.parser.proofs.Bound.{means}
 
 abbrev pub invariant-loop-inserted : goal.invariant-loop-inserted
 invariant-loop-inserted g l =
-    Running l.contexts l.initial.mark l.coming
+    Running l.contexts l.marked.mark l.marked.coming
     (means g.P.Stepping g.P.Probing l.initial.parser) l.draft l.mark
     (means g.P.Stepping g.P.Probing l.parser)
 

@@ -17,9 +17,9 @@ abbrev of : (g : given.Over) → g.row.P.Denot → Meaning
 of g p = means g.P.Stepping g.P.Probing p
 
 -- what was laid, over the contexts themselves
-laid : (g : given.Over) (c : After-lay g) (o : Result Draft Reason) → Laying c.as_slice.result.now c.args.mark c.args.coming.now (of g c.args.self.now.parser) (of g c.lay.new.parser) o
-    → Laying c.args.self.now.contexts.items c.args.mark c.args.coming.now (of g c.args.self.now.parser) (of g c.lay.new.parser) o
-laid g c o = subst (λ cs. Laying cs c.args.mark c.args.coming.now (of g c.args.self.now.parser) (of g c.lay.new.parser) o) c.as_slice.ensures.value
+laid : (g : given.Over) (c : After-lay g) (o : Result Draft Reason) → Laying c.as_slice.result.now c.args.marked.now.mark c.args.marked.now.coming (of g c.args.self.now.parser) (of g c.lay.new.parser) o
+    → Laying c.args.self.now.contexts.items c.args.marked.now.mark c.args.marked.now.coming (of g c.args.self.now.parser) (of g c.lay.new.parser) o
+laid g c o = subst (λ cs. Laying cs c.args.marked.now.mark c.args.marked.now.coming (of g c.args.self.now.parser) (of g c.lay.new.parser) o) c.as_slice.ensures.value
 
 pub returns-in_err-draft : goal.returns-in_err-draft
 returns-in_err-draft g c =
@@ -28,8 +28,8 @@ returns-in_err-draft g c =
     let now = of g c.lay.new.parser in
     let turned = err_from_is_err_and c.from_residual.result c.from_residual.ensures.1 in
     record {
-      told = subst (Attempts r.contexts.items c.args.mark c.args.coming.now c.args.free before now) (sym (turned.1 ∙ ap Err turned.2))
-          (attempt_stopped r.contexts.items c.args.mark c.args.coming.now c.args.free before now c.in_err-draft.field-0.0 (laid g (goal.at.returns-in_err-draft g c).After-lay (Err c.in_err-draft.field-0.0) c.in_err-draft.ensures));
+      told = subst (Attempts r.contexts.items c.args.marked.now.mark c.args.marked.now.coming c.args.free before now) (sym (turned.1 ∙ ap Err turned.2))
+          (attempt_stopped r.contexts.items c.args.marked.now.mark c.args.marked.now.coming c.args.free before now c.in_err-draft.field-0.0 (laid g (goal.at.returns-in_err-draft g c).After-lay (Err c.in_err-draft.field-0.0) c.in_err-draft.ensures));
       beside = record { contexts = refl; last = refl; sheet = refl; next = refl };
     }
 
@@ -37,7 +37,7 @@ pub returns-then-not-is_whole : goal.returns-then-not-is_whole
 returns-then-not-is_whole g c =
     let r = c.args.self.now in
     record {
-      told = attempt_not_whole r.contexts.items c.args.mark c.args.coming.now c.args.free (of g r.parser) (of g c.lay.new.parser) c.in_ok-draft.draft
+      told = attempt_not_whole r.contexts.items c.args.marked.now.mark c.args.marked.now.coming c.args.free (of g r.parser) (of g c.lay.new.parser) c.in_ok-draft.draft
           (laid g (goal.at.returns-then-not-is_whole g c).After-lay (Ok c.in_ok-draft.draft) c.in_ok-draft.ensures) (λ w. false≢true (sym c.if-not-is_whole.true ∙ c.is_whole.ensures.1 w));
       beside = record { contexts = refl; last = refl; sheet = refl; next = refl };
     }
@@ -46,7 +46,7 @@ pub returns-then-free-count : goal.returns-then-free-count
 returns-then-free-count g c =
     let r = c.args.self.now in
     record {
-      told = attempt_no_room r.contexts.items c.args.mark c.args.coming.now c.args.free (of g r.parser) (of g c.lay.new.parser) c.in_ok-draft.draft
+      told = attempt_no_room r.contexts.items c.args.marked.now.mark c.args.marked.now.coming c.args.free (of g r.parser) (of g c.lay.new.parser) c.in_ok-draft.draft
           (laid g (goal.at.returns-then-free-count g c).After-lay (Ok c.in_ok-draft.draft) c.in_ok-draft.ensures) (c.is_whole.ensures.0 c.if-not-is_whole.false) (omega (arith, c.count.ensures, c.if-free-count.true));
       beside = record { contexts = refl; last = refl; sheet = refl; next = refl };
     }
@@ -55,7 +55,7 @@ pub returns : goal.returns
 returns g c =
     let r = c.args.self.now in
     record {
-      told = attempt_fits r.contexts.items c.args.mark c.args.coming.now c.args.free (of g r.parser) (of g c.lay.new.parser) c.in_ok-draft.draft
+      told = attempt_fits r.contexts.items c.args.marked.now.mark c.args.marked.now.coming c.args.free (of g r.parser) (of g c.lay.new.parser) c.in_ok-draft.draft
           (laid g (goal.at.returns g c).After-lay (Ok c.in_ok-draft.draft) c.in_ok-draft.ensures) (c.is_whole.ensures.0 c.if-not-is_whole.false) (omega (arith, c.count.ensures, c.if-free-count.false));
       beside = record { contexts = refl; last = refl; sheet = refl; next = refl };
     }

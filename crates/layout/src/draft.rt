@@ -13,7 +13,7 @@ use sheet::{Kind, Reason};
 // At most so many blocks are open.
 pub const MOST_BLOCKS: usize = 64;
 
-#[derive(Clone, Copy)]
+#[derive(Clone, Copy, Default)]
 pub struct Draft {
     // How many contexts of the sheet stay open.
     pub depth: usize,
@@ -35,11 +35,7 @@ impl Draft {
     {
         Draft {
             depth,
-            opened: None,
-            brace: false,
-            closes: 0,
-            separator: false,
-            closes_after: 0,
+            ..Draft::default()
         }
     }
 
@@ -78,19 +74,15 @@ impl Draft {
         ensures opened { is_some result.opened ≡ false }
         ensures row { (result.separator ≡ self.separator) × (result.closes_after ≡ self.closes_after) }
     {
-        if self.opened.is_some() {
-            Draft {
+        match self.opened {
+            Some(_) => Draft {
                 opened: None,
                 ..self
-            }
-        } else if self.depth == 0 {
-            self
-        } else {
-            Draft {
-                depth: self.depth - 1,
-                opened: None,
+            },
+            None => Draft {
+                depth: self.depth.saturating_sub(1),
                 ..self
-            }
+            },
         }
     }
 

@@ -15,7 +15,9 @@ mod questions;
 mod sheets;
 
 // Where a sheet stands over a parser that took its tokens so far. The contexts of the open blocks stand with the
-// outermost first, and each implicit one exceeds the one beneath it. Without a sheet there are none.
+// outermost first, and each implicit one exceeds the one beneath it. Without a sheet there are none. A context is one
+// number, the column of an implicit block or 0 for an explicit one, and no enum: function L of the Haskell Report has
+// both in that number and compares them by it.
 #[derive(Drop)]
 pub struct Resolver<P> {
     parser: P,

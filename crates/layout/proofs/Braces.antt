@@ -14,7 +14,7 @@ use Rattle.layout.specs.declared.call.Call.{Call}
 use Rattle.layout.specs.declared.call.Call.TheVariants.{Finish as finish}
 use Rattle.layout.specs.declared.rule.Before.TheVariants.{Nothing}
 use Rattle.layout.proofs.Finish.{sentence, stands}
-use Rattle.layout.proofs.Marked.{due, due_following, not_the_start, ready_end, ready_lexeme}
+use Rattle.layout.proofs.Due.{due, due_following, not_the_start, ready_end, ready_lexeme}
 use Rattle.layout.proofs.Paths.{path_on}
 use Rattle.layout.specs.Shape.{Path, here}
 use Rattle.layout.proofs.Shapes.{runs_shaped}

@@ -34,10 +34,10 @@ kinds_inserted (ending p) (k ∷ u) = ap (λ w. k ∷ w) (kinds_inserted (ending
 bound_of : (n m before : Meaning) (u : List ℕ) → Alike n m → Alike m (after u before) → Bound n before
 bound_of n m before u x y = record { language = same_trans x.language y.language; reach = x.reach ∙ y.reach; mark = mark_trans n.mark m.mark before.mark x.mark y.mark }
 
-module _ (cs ks : List ℕ) (m₀ : Option Mark) (before : Meaning) (e : Draft) (m : Option Mark) (now : Meaning) (r : Rule) where
+module _ (cs : List ℕ) (m₀ : Option Mark) (before : Meaning) (e : Draft) (m : Option Mark) (now : Meaning) (r : Rule) where
   -- the lexeme is written
-  pub exit_written : (l : Lexeme) → Standing cs ks m₀ (lexeme l) before e m now → Applies before.remainder (tokens_of e) m (lexeme l) (contexts_of cs e) r → onward r ≡ lexeme_written → (next : Meaning) (f : Draft)
-      → Step l.kind (length (contexts_of cs e)) now next (Ok tt) → tokens_of f ≡ tokens_of e → contexts_of cs f ≡ leaves r l.column (contexts_of cs e) → f.depth ≤ e.depth → Laying cs ks m₀ (lexeme l) before next (Ok f)
+  pub exit_written : (l : Lexeme) → Standing cs m₀ (lexeme l) before e m now → Applies before.remainder (tokens_of e) m (lexeme l) (contexts_of cs e) r → onward r ≡ lexeme_written → (next : Meaning) (f : Draft)
+      → Step l.kind (length (contexts_of cs e)) now next (Ok tt) → tokens_of f ≡ tokens_of e → contexts_of cs f ≡ leaves r l.column (contexts_of cs e) → f.depth ≤ e.depth → Laying cs m₀ (lexeme l) before next (Ok f)
   exit_written l so rule on next f s tokens contexts shallow =
       let u = tokens_of e in
       let told : kinds (map (inserted (lexeme l)) u ++ written l ∷ []) ≡ u ++ l.kind ∷ [] = map-append (λ (t : Token). t.kind) (map (inserted (lexeme l)) u) (written l ∷ []) ∙ ap (λ w. w ++ l.kind ∷ []) (kinds_inserted (lexeme l) u) in
@@ -47,18 +47,18 @@ module _ (cs ks : List ℕ) (m₀ : Option Mark) (before : Meaning) (e : Draft) 
       (subst (λ (w : List ℕ). Alike next (after w before)) (sym told) (alike_trans next (after (l.kind ∷ []) now) (after (u ++ l.kind ∷ []) before) (step_takes l.kind (length (contexts_of cs e)) now next s) (after_on u (l.kind ∷ []) before now so.steps)))
 
   -- the lexeme is refused
-  pub exit_refused : (l : Lexeme) → Standing cs ks m₀ (lexeme l) before e m now → Applies before.remainder (tokens_of e) m (lexeme l) (contexts_of cs e) r → onward r ≡ lexeme_written → (next : Meaning) (why : Reason)
-      → Step l.kind (length (contexts_of cs e)) now next (Err why) → Laying cs ks m₀ (lexeme l) before next (Err why)
+  pub exit_refused : (l : Lexeme) → Standing cs m₀ (lexeme l) before e m now → Applies before.remainder (tokens_of e) m (lexeme l) (contexts_of cs e) r → onward r ≡ lexeme_written → (next : Meaning) (why : Reason)
+      → Step l.kind (length (contexts_of cs e)) now next (Err why) → Laying cs m₀ (lexeme l) before next (Err why)
   exit_refused l so rule on next why s =
       stopped (so.runs (Err why) (refuses rule on (step_stops l.kind (length (contexts_of cs e)) (tokens_of e) before now next [] why so.steps s)))
       (bound_of next now before (tokens_of e) (step_leaves l.kind (length (contexts_of cs e)) now next why s) so.steps)
 
   -- the rules are undefined
-  pub exit_undefined : (c : Coming) → Standing cs ks m₀ c before e m now → Applies before.remainder (tokens_of e) m c (contexts_of cs e) r → onward r ≡ undefined → Laying cs ks m₀ c before now (Err (undefined_at c))
+  pub exit_undefined : (c : Coming) → Standing cs m₀ c before e m now → Applies before.remainder (tokens_of e) m c (contexts_of cs e) r → onward r ≡ undefined → Laying cs m₀ c before now (Err (undefined_at c))
   exit_undefined c so rule on = stopped (so.runs (Err (undefined_at c)) (is_undefined rule on)) (bound_of now now before (tokens_of e) (alike_refl now) so.steps)
 
   -- the end is reached
-  pub exit_ended : (p : Place) → Standing cs ks m₀ (ending p) before e m now → Applies before.remainder (tokens_of e) m (ending p) (contexts_of cs e) r → onward r ≡ ended → Laying cs ks m₀ (ending p) before now (Ok e)
+  pub exit_ended : (p : Place) → Standing cs m₀ (ending p) before e m now → Applies before.remainder (tokens_of e) m (ending p) (contexts_of cs e) r → onward r ≡ ended → Laying cs m₀ (ending p) before now (Ok e)
   exit_ended p so rule on =
       let u = tokens_of e in
       let ts = map (inserted (ending p)) u in
@@ -72,7 +72,7 @@ way lexeme_written = 1
 way ended = 2
 way undefined = 3
 
-no_lexeme : {G : Lists} {u : List ℕ} {m : Option Mark} {p : Place} {ks : List ℕ} {r : Rule} → Applies G u m (ending p) ks r → onward r ≡ lexeme_written → ⊥
+pub no_lexeme : {G : Lists} {u : List ℕ} {m : Option Mark} {p : Place} {ks : List ℕ} {r : Rule} → Applies G u m (ending p) ks r → onward r ≡ lexeme_written → ⊥
 no_lexeme (separate e) on = omega (arith, ap way on)
 no_lexeme (close_shallower h) on = omega (arith, ap way on)
 no_lexeme (drop_deeper h) on = omega (arith, ap way on)
@@ -96,17 +96,17 @@ no_end (open_typed k) on = omega (arith, ap way on)
 no_end (close_on_error x y) on = omega (arith, ap way on)
 no_end (write_lexeme x y) on = omega (arith, ap way on)
 
-module _ (cs ks : List ℕ) (m₀ : Option Mark) (before : Meaning) (e : Draft) (m : Option Mark) (now : Meaning) (r : Rule) where
-  pub written_at : (c : Coming) → Standing cs ks m₀ c before e m now → Applies before.remainder (tokens_of e) m c (contexts_of cs e) r → onward r ≡ lexeme_written → (next : Meaning) (f : Draft)
-      → Step (kind c) (length (contexts_of cs e)) now next (Ok tt) → tokens_of f ≡ tokens_of e → contexts_of cs f ≡ leaves r (column c) (contexts_of cs e) → f.depth ≤ e.depth → Laying cs ks m₀ c before next (Ok f)
-  written_at (lexeme l) so rule on next f s = exit_written cs ks m₀ before e m now r l so rule on next f s
+module _ (cs : List ℕ) (m₀ : Option Mark) (before : Meaning) (e : Draft) (m : Option Mark) (now : Meaning) (r : Rule) where
+  pub written_at : (c : Coming) → Standing cs m₀ c before e m now → Applies before.remainder (tokens_of e) m c (contexts_of cs e) r → onward r ≡ lexeme_written → (next : Meaning) (f : Draft)
+      → Step (kind c) (length (contexts_of cs e)) now next (Ok tt) → tokens_of f ≡ tokens_of e → contexts_of cs f ≡ leaves r (column c) (contexts_of cs e) → f.depth ≤ e.depth → Laying cs m₀ c before next (Ok f)
+  written_at (lexeme l) so rule on next f s = exit_written cs m₀ before e m now r l so rule on next f s
   written_at (ending p) so rule on next f s = absurd (no_lexeme rule on)
 
-  pub refused_at : (c : Coming) → Standing cs ks m₀ c before e m now → Applies before.remainder (tokens_of e) m c (contexts_of cs e) r → onward r ≡ lexeme_written → (next : Meaning) (why : Reason)
-      → Step (kind c) (length (contexts_of cs e)) now next (Err why) → Laying cs ks m₀ c before next (Err why)
-  refused_at (lexeme l) so rule on next why s = exit_refused cs ks m₀ before e m now r l so rule on next why s
+  pub refused_at : (c : Coming) → Standing cs m₀ c before e m now → Applies before.remainder (tokens_of e) m c (contexts_of cs e) r → onward r ≡ lexeme_written → (next : Meaning) (why : Reason)
+      → Step (kind c) (length (contexts_of cs e)) now next (Err why) → Laying cs m₀ c before next (Err why)
+  refused_at (lexeme l) so rule on next why s = exit_refused cs m₀ before e m now r l so rule on next why s
   refused_at (ending p) so rule on next why s = absurd (no_lexeme rule on)
 
-  pub ended_at : (c : Coming) → Standing cs ks m₀ c before e m now → Applies before.remainder (tokens_of e) m c (contexts_of cs e) r → onward r ≡ ended → Laying cs ks m₀ c before now (Ok e)
+  pub ended_at : (c : Coming) → Standing cs m₀ c before e m now → Applies before.remainder (tokens_of e) m c (contexts_of cs e) r → onward r ≡ ended → Laying cs m₀ c before now (Ok e)
   ended_at (lexeme l) so rule on = absurd (no_end rule on)
-  ended_at (ending p) so rule on = exit_ended cs ks m₀ before e m now r p so rule on
+  ended_at (ending p) so rule on = exit_ended cs m₀ before e m now r p so rule on

@@ -20,7 +20,7 @@ use Rattle.layout.specs.declared.rule.Before.{Before}
 use Rattle.layout.specs.declared.rule.Before.TheVariants.{Nothing, BlockKeyword, Other}
 use Rattle.layout.specs.declared.rule.Coming.TheVariants.{Lexeme as lexeme, End as ending}
 use Rattle.layout.specs.declared.rule.Mark.TheVariants.{Line}
-use Rattle.layout.proofs.Marked.{due, due_following, no_block}
+use Rattle.layout.proofs.Due.{due, due_following, no_block}
 use Rattle.layout.specs.Shape.{Path, closes, here, opens, other}
 
 -- so many explicit blocks

@@ -22,7 +22,7 @@ pub mod Tied
 pub mod Replaying
 pub mod Queues
 pub mod Written
-pub mod Marked
+pub mod Due
 pub mod Braces
 pub mod FedAgain
 pub mod Lawful

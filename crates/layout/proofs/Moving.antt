@@ -7,6 +7,7 @@ use Rattle.parser.specs.Sets.{Lists, Same}
 use Rattle.parser.proofs.Meanings.{mark_trans, same_sym, same_trans}
 use Rattle.sheet.specs.declared.fault.Reason.{Reason}
 use Rattle.sheet.specs.declared.fault.Reason.TheVariants.{NoRoom, NotComplete}
+use Rattle.layout.specs.Contexts.{stacked}
 use Rattle.layout.specs.Drafts.{Bound, Laying, drafted_tokens}
 use Rattle.layout.specs.Drafts as drafts
 use Rattle.layout.specs.Layout.{kinds}
@@ -18,7 +19,7 @@ use Rattle.layout.specs.declared.rule.Coming.TheVariants.{Lexeme as lexeme, End 
 use Rattle.layout.specs.declared.rule.Mark.{Mark}
 use Rattle.layout.proofs.Shifts.{runs_at}
 
-module _ (cs ks : List ℕ) (m : Option Mark) (c : Coming) (free : ℕ) (before now : Meaning) where
+module _ (cs : List ℕ) (m : Option Mark) (c : Coming) (free : ℕ) (before now : Meaning) where
   -- the parser tells at the end whether what was written is a sentence
   whole_told : (c : Coming) (x : Laid) → Alike now (after_kinds (kinds x.tokens) before) → WholeAt now.remainder c → Whole before.remainder c x
   whole_told (lexeme l) x so w = tt
@@ -32,20 +33,24 @@ module _ (cs ks : List ℕ) (m : Option Mark) (c : Coming) (free : ℕ) (before 
   bound_of u so = record { language = so.language; reach = so.reach; mark = so.mark }
 
   -- the rules stop
-  pub attempt_stopped : (why : Reason) → Laying cs ks m c before now (Err why) → Attempts cs ks m c free before now (Err why)
+  pub attempt_stopped : (why : Reason) → Laying cs m c before now (Err why) → Attempts cs m c free before now (Err why)
   attempt_stopped why (drafts.stopped r b) = Attempts.refused (Tries.stopped r) b
 
   -- the sentence is not whole
-  pub attempt_not_whole : (d : Draft) → Laying cs ks m c before now (Ok d) → (WholeAt now.remainder c → ⊥) → Attempts cs ks m c free before now (Err NotComplete)
+  pub attempt_not_whole : (d : Draft) → Laying cs m c before now (Ok d) → (WholeAt now.remainder c → ⊥) → Attempts cs m c free before now (Err NotComplete)
   attempt_not_whole d (drafts.laid x r tokens contexts shallow so) n = Attempts.refused (Tries.not_whole r (λ w. n (told_whole c x so w))) (bound_of (kinds x.tokens) so)
 
   -- not all of it fits
-  pub attempt_no_room : (d : Draft) → Laying cs ks m c before now (Ok d) → WholeAt now.remainder c → free < length (drafted_tokens c d) → Attempts cs ks m c free before now (Err NoRoom)
+  pub attempt_no_room : (d : Draft) → Laying cs m c before now (Ok d) → WholeAt now.remainder c → free < length (drafted_tokens c d) → Attempts cs m c free before now (Err NoRoom)
   attempt_no_room d (drafts.laid x r tokens contexts shallow so) w few = Attempts.refused (Tries.no_room r (whole_told c x so w) (omega (arith, ap length tokens))) (bound_of (kinds x.tokens) so)
 
   -- all is accepted
-  pub attempt_fits : (d : Draft) → Laying cs ks m c before now (Ok d) → WholeAt now.remainder c → length (drafted_tokens c d) ≤ free → Attempts cs ks m c free before now (Ok d)
+  pub attempt_fits : (d : Draft) → Laying cs m c before now (Ok d) → WholeAt now.remainder c → length (drafted_tokens c d) ≤ free → Attempts cs m c free before now (Ok d)
   attempt_fits d (drafts.laid x r tokens contexts shallow so) w enough = Attempts.accepted x (Tries.fits r (whole_told c x so w) (omega (arith, ap length tokens))) tokens contexts shallow so
+
+-- the same at a mark and before what comes, by another name
+pub moves_at : {cs : List ℕ} {k k' : Option Mark} {c c' : Coming} {free : ℕ} {m n : Meaning} {o : Result Draft Reason} → k ≡ k' → c ≡ c' → Moves cs k c free m n o → Moves cs k' c' free m n o
+moves_at {cs} {free = free} {m} {n} {o} e f x = subst (λ (p : Option Mark × Coming). Moves cs p.0 p.1 free m n o) (λ i. (e i, f i)) x
 
 -- over a language with the same lists all is tried alike
 whole_same : {A R : Lists} (c : Coming) (x : Laid) → Same A R → Whole A c x → Whole R c x
@@ -58,12 +63,12 @@ tries_same {A} {R} same (Tries.stopped r) = Tries.stopped (runs_at A R [] same r
 tries_same {A} {R} {c = c} same (Tries.not_whole {x = x} r n) = Tries.not_whole (runs_at A R [] same r) (λ w. n (whole_same c x (same_sym same) w))
 tries_same {A} {R} {c = c} same (Tries.no_room {x = x} r w f) = Tries.no_room (runs_at A R [] same r) (whole_same c x same w) f
 
-module _ (cs ks : List ℕ) (m : Option Mark) (c : Coming) (free : ℕ) (before mid now last : Meaning) (mark : Alike mid (marked before)) where
-  tried : {o : Result Laid Reason} → Tries mid.remainder mid.left ks m c free o → Tries before.remainder before.left ks m c free o
-  tried {o} t = subst (λ n. Tries before.remainder n ks m c free o) mark.left (tries_same mark.remainder t)
+module _ (cs : List ℕ) (m : Option Mark) (c : Coming) (free : ℕ) (before mid now last : Meaning) (mark : Alike mid (marked before)) where
+  tried : {o : Result Laid Reason} → Tries mid.remainder mid.left (stacked cs) m c free o → Tries before.remainder before.left (stacked cs) m c free o
+  tried {o} t = subst (λ n. Tries before.remainder n (stacked cs) m c free o) mark.left (tries_same mark.remainder t)
 
   -- what was accepted is kept
-  pub moved_on : (d : Draft) → Attempts cs ks m c free mid now (Ok d) → Alike last (kept now) → Moves cs ks m c free before last (Ok d)
+  pub moved_on : (d : Draft) → Attempts cs m c free mid now (Ok d) → Alike last (kept now) → Moves cs m c free before last (Ok d)
   moved_on d (Attempts.accepted x t tokens contexts shallow so) end =
       let u = kinds x.tokens in
       Moves.accepted x (tried t) tokens contexts shallow
@@ -79,7 +84,7 @@ module _ (cs ks : List ℕ) (m : Option Mark) (c : Coming) (free : ℕ) (before 
   back_to (holds A k) is n end = (same_trans end.remainder is.0, end.left ∙ is.1, end.language, end.reach)
 
   -- what was refused is taken back
-  pub moved_back : (why : Reason) → Attempts cs ks m c free mid now (Err why) → Alike last (returned now) → Moves cs ks m c free before last (Err why)
+  pub moved_back : (why : Reason) → Attempts cs m c free mid now (Err why) → Alike last (returned now) → Moves cs m c free before last (Err why)
   moved_back why (Attempts.refused t b) end =
       let as_before = back_to now.mark (mark_trans now.mark mid.mark (holds before.remainder before.left) b.mark mark.mark) last end in
       Moves.refused (tried t)
@@ -95,5 +100,5 @@ module _ (cs ks : List ℕ) (m : Option Mark) (c : Coming) (free : ℕ) (before 
   cleared absent is n end = elim is [ ]
   cleared (holds A k) is n end = end.mark
 
-  pub back_unmarked : (why : Reason) → Attempts cs ks m c free mid now (Err why) → Alike last (returned now) → SameMark last.mark absent
+  pub back_unmarked : (why : Reason) → Attempts cs m c free mid now (Err why) → Alike last (returned now) → SameMark last.mark absent
   back_unmarked why (Attempts.refused t b) end = cleared now.mark (mark_trans now.mark mid.mark (holds before.remainder before.left) b.mark mark.mark) last end

@@ -9,7 +9,7 @@ use Rattle.parser.proofs.Meanings.{alike_sym, alike_trans, mark_trans, same_tran
 use Rattle.parser.proofs.Steps.{after_none}
 use Rattle.sheet.specs.declared.fault.Reason.{Reason}
 use Rattle.sheet.specs.declared.lexeme.Token.{Token}
-use Rattle.layout.specs.Contexts.{stack}
+use Rattle.layout.specs.Contexts.{stack, stacked}
 use Rattle.layout.specs.Drafts.{Bound, Inserted, Laying, NextAll, Row, contexts_of, drafted, if_set, no_separator, refused, stopped, tokens_of, with_opened}
 use Rattle.layout.specs.Limits.{Goes, Laid, Runs, and_before, goes_on, stops}
 use Rattle.layout.specs.Marks.{Fitting, column, inserted, kind}
@@ -239,12 +239,12 @@ before_twice : (a b : List Token) (o : Result Laid Reason) → and_before a (and
 before_twice a b (Ok x) = ap (λ l. Ok (record { tokens = l; contexts = x.contexts })) (sym (append_assoc a b x.tokens))
 before_twice a b (Err why) = refl
 
-module _ (cs ks : List ℕ) (m₀ : Option Mark) (c : Coming) (before : Meaning) where
+module _ (cs : List ℕ) (m₀ : Option Mark) (c : Coming) (before : Meaning) where
   -- the parser has taken what is drafted, and what the rules still do completes what they do in all
   pub record Standing (d : Draft) (m : Option Mark) (now : Meaning) : Type 0 where
     pub steps : Alike now (after (tokens_of d) before)
-    pub runs : (o : Result Laid Reason) → Runs before.remainder (tokens_of d) now.left (contexts_of cs d) m c o → Runs before.remainder [] before.left ks m₀ c (and_before (map (inserted c) (tokens_of d)) o)
-    pub shallow : d.depth ≤ length ks
+    pub runs : (o : Result Laid Reason) → Runs before.remainder (tokens_of d) now.left (contexts_of cs d) m c o → Runs before.remainder [] before.left (stacked cs) m₀ c (and_before (map (inserted c) (tokens_of d)) o)
+    pub shallow : d.depth ≤ length cs
 
   pub record Running (d : Draft) (m : Option Mark) (now : Meaning) : Type 0 where
     pub stands : Standing d m now
@@ -269,13 +269,13 @@ module _ (cs ks : List ℕ) (m₀ : Option Mark) (c : Coming) (before : Meaning)
     written_on w g = goes_at now.remainder before.remainder (tokens_of d) so.stands.steps.remainder (length (contexts_of cs d)) g
 
     -- a token of the rule is refused
-    pub running_stops : (next : Meaning) (why : Reason) → Inserted (inserting r) (length (contexts_of cs d)) d now next (Err why) → Laying cs ks m₀ c before next (Err why)
+    pub running_stops : (next : Meaning) (why : Reason) → Inserted (inserting r) (length (contexts_of cs d)) d now next (Err why) → Laying cs m₀ c before next (Err why)
     running_stops next why (refused g b) = ⊎_elim on none (goes_or_none r)
       where
-        on : (m' : Option Mark) × (onward r ≡ at_mark m') → Laying cs ks m₀ c before next (Err why)
+        on : (m' : Option Mark) × (onward r ≡ at_mark m') → Laying cs m₀ c before next (Err why)
         on x = stopped (so.stands.runs (Err why) (stops rule x.1 (written_on _ g))) (bound_on next b)
 
-        none : inserting r ≡ [] → Laying cs ks m₀ c before next (Err why)
+        none : inserting r ≡ [] → Laying cs m₀ c before next (Err why)
         none e = absurd (nothing_stops (subst (λ (l : List Insert). Goes now.remainder (length (contexts_of cs d)) [] now.left (map insert_kind l) (Err why)) e g))
 
     -- the rule goes on at another mark
@@ -294,7 +294,7 @@ module _ (cs ks : List ℕ) (m₀ : Option Mark) (c : Coming) (before : Meaning)
             runs = λ o run.
                 let moved : Runs before.remainder (tokens_of d ++ inserts r) next.left (leaves r (column c) (contexts_of cs d)) m' c o =
                 subst (λ (x : List ℕ). Runs before.remainder (tokens_of d ++ inserts r) next.left x m' c o) left (subst (λ (w : List ℕ). Runs before.remainder w next.left (contexts_of cs f) m' c o) grown run) in
-                subst (Runs before.remainder [] before.left ks m₀ c)
+                subst (Runs before.remainder [] before.left (stacked cs) m₀ c)
                 (before_twice (map (inserted c) (tokens_of d)) (map (inserted c) (inserts r)) o ∙ ap (λ l. and_before l o) (sym (map-append (inserted c) (tokens_of d) (inserts r)) ∙ ap (map (inserted c)) (sym grown)))
                 (so.stands.runs _ (goes_on rule on (written_on (inserts r) g) moved));
             shallow = omega (arith, depth, so.stands.shallow);
@@ -321,9 +321,9 @@ none_inserted CloseAtEnd e = absurd (true≢false e)
 none_inserted End e = refl
 none_inserted BlockLeftOpen e = refl
 
-module _ (cs ks : List ℕ) (m₀ : Option Mark) (c : Coming) (before : Meaning) (d : Draft) (m : Option Mark) (now : Meaning) (r : Rule) (so : Running cs ks m₀ c before d m now) (a : Applies now.remainder [] m c (contexts_of cs d) r) (next : Meaning) (e : Draft) where
+module _ (cs : List ℕ) (m₀ : Option Mark) (c : Coming) (before : Meaning) (d : Draft) (m : Option Mark) (now : Meaning) (r : Rule) (so : Running cs m₀ c before d m now) (a : Applies now.remainder [] m c (contexts_of cs d) r) (next : Meaning) (e : Draft) where
   -- where nothing is inserted, all stands as before
-  pub same_stand : at_some (onward r) ≡ false → Inserted (inserting r) (length (contexts_of cs d)) d now next (Ok e) → Standing cs ks m₀ c before e m next × (length (contexts_of cs e) ≡ length (contexts_of cs d)) × Applies before.remainder (tokens_of e) m c (contexts_of cs e) r
+  pub same_stand : at_some (onward r) ≡ false → Inserted (inserting r) (length (contexts_of cs d)) d now next (Ok e) → Standing cs m₀ c before e m next × (length (contexts_of cs e) ≡ length (contexts_of cs d)) × Applies before.remainder (tokens_of e) m c (contexts_of cs e) r
   same_stand nothing (drafted g x tokens depth opened row) =
       let empty = ap (map insert_kind) (none_inserted r nothing) in
       let same : tokens_of e ≡ tokens_of d = tokens ∙ ap (λ w. tokens_of d ++ w) empty ∙ append-nil (tokens_of d) in
@@ -335,7 +335,7 @@ module _ (cs ks : List ℕ) (m₀ : Option Mark) (c : Coming) (before : Meaning)
               let moved : Runs before.remainder (tokens_of d) now.left (contexts_of cs d) m c o =
               subst (λ (n : ℕ). Runs before.remainder (tokens_of d) n (contexts_of cs d) m c o) kept.left
               (subst (λ (l : List ℕ). Runs before.remainder (tokens_of d) next.left l m c o) around (subst (λ (w : List ℕ). Runs before.remainder w next.left (contexts_of cs e) m c o) same run)) in
-              subst (λ (w : List ℕ). Runs before.remainder [] before.left ks m₀ c (and_before (map (inserted c) w) o)) (sym same) (so.stands.runs o moved);
+              subst (λ (w : List ℕ). Runs before.remainder [] before.left (stacked cs) m₀ c (and_before (map (inserted c) w) o)) (sym same) (so.stands.runs o moved);
           shallow = omega (arith, depth, so.stands.shallow);
         },
         ap length around,
@@ -358,22 +358,22 @@ weight_few none = omega arith
 weight_few (Some Line) = omega arith
 weight_few (Some Block) = omega arith
 
-pub running_new : (cs : List ℕ) (depth : ℕ) (m : Option Mark) (c : Coming) (before : Meaning) (d : Draft) → d.depth ≡ depth → d.opened ≡ none → (d.brace ≡ false) × (d.closes ≡ 0) × (d.separator ≡ false) × (d.closes_after ≡ 0) → depth ≤ 64 → Fitting m c
-    → Running cs (stack cs depth) m c before d m before
-running_new cs depth m c before d at opened row small fitting =
+pub running_new : (cs : List ℕ) (m : Option Mark) (c : Coming) (before : Meaning) (d : Draft) → d.depth ≡ length cs → d.opened ≡ none → (d.brace ≡ false) × (d.closes ≡ 0) × (d.separator ≡ false) × (d.closes_after ≡ 0) → length cs ≤ 64 → Fitting m c
+    → Running cs m c before d m before
+running_new cs m c before d at opened row small fitting =
     let none_yet : tokens_of d ≡ [] = (λ i. if_set (row.0 i) 3 ++ (replicate (row.1 i) 4 ++ (if_set (row.2 i) 5 ++ replicate (row.3 i) 4))) in
-    let around : contexts_of cs d ≡ stack cs depth = (λ i. with_opened (opened i) (stack cs (at i))) in
+    let around : contexts_of cs d ≡ stacked cs = (λ i. with_opened (opened i) (stack cs (at i))) in
     record {
       stands = record {
         steps = subst (λ (w : List ℕ). Alike before (after w before)) (sym none_yet) (after_none before);
         runs = λ o run.
-            subst (λ (w : List ℕ). Runs before.remainder [] before.left (stack cs depth) m c (and_before (map (inserted c) w) o)) (sym none_yet)
-            (subst (Runs before.remainder [] before.left (stack cs depth) m c) (before_nothing o)
+            subst (λ (w : List ℕ). Runs before.remainder [] before.left (stacked cs) m c (and_before (map (inserted c) w) o)) (sym none_yet)
+            (subst (Runs before.remainder [] before.left (stacked cs) m c) (before_nothing o)
             (subst (λ (l : List ℕ). Runs before.remainder [] before.left l m c o) around (subst (λ (w : List ℕ). Runs before.remainder w before.left (contexts_of cs d) m c o) none_yet run)));
-        shallow = omega (arith, at, length_stack cs depth);
+        shallow = omega (arith, at);
       };
       phase = phase_new m d (row.0, row.1, row.2, row.3, ap is_some opened);
       fitting = fitting;
       brace = λ some k. absurd (false≢true (sym (ap is_some opened) ∙ some));
-      small = omega (arith, ap length none_yet, ap length around, length_stack cs depth, weight_few m);
+      small = omega (arith, ap length none_yet, ap length around, length_stack cs (length cs), weight_few m);
     }

@@ -7,7 +7,8 @@ use Rattle.sheet.specs.declared.fault.Reason.TheVariants.{BadLexeme, WrongTicket
 use Rattle.sheet.specs.declared.lexeme.Lexeme.{Lexeme}
 use Rattle.sheet.specs.declared.lexeme.Place.{Place}
 use Rattle.layout.specs.Calling.{Fed, Finished, next_of, over, shut, standing}
-use Rattle.layout.specs.Contexts.{stack}
+use Rattle.layout.specs.Contexts.{stacked}
+use Rattle.arrayvec.specs.ArrayVec.{array_vec_len}
 use Rattle.layout.specs.Drafts.{contexts_of}
 use Rattle.layout.specs.Limits.{Laid, Runs}
 use Rattle.layout.specs.Marks.{after, end_mark, mark_of}
@@ -30,9 +31,9 @@ from_start : {R : Lists} {left : ℕ} {ks : List ℕ} {m : Option Mark} {c : Com
 from_start {R} {left} {ks} {m} {c} {o} r = let all : left ≡ left - 0 = omega arith in subst (λ n. Runs R [] n ks m c o) all r
 
 -- what is accepted leaves contexts that can be kept
-pub moves_sound : {P : Type 0} (r : Resolver P) (m : Option Mark) (c : Coming) (free : ℕ) (before now : Meaning) (d : Draft) → Moves r.contexts (stack r.contexts r.depth) m c free before now (Ok d) → Sound (contexts_of r.contexts d) × (d.depth ≤ r.depth)
+pub moves_sound : {P : Type 0} (r : Resolver P) (m : Option Mark) (c : Coming) (free : ℕ) (before now : Meaning) (d : Draft) → Moves r.contexts.items m c free before now (Ok d) → Sound (contexts_of r.contexts.items d) × (d.depth ≤ array_vec_len r.contexts)
 moves_sound r m c free before now d (Moves.accepted x (Tries.fits run w f) tokens contexts shallow took) =
-    (subst Sound contexts (runs_sound run (record { rising = r.rising; few = omega (arith, length_stack r.contexts r.depth, r.shallow) })), omega (arith, length_stack r.contexts r.depth))
+    (subst Sound contexts (runs_sound run (record { rising = r.rising; few = omega (arith, length_stack r.contexts.items (array_vec_len r.contexts), r.shallow) })), shallow)
 
 module _ (m : Meaning) (s : State) (t : ℕ) (free : ℕ) where
   -- refused before the rules are asked
@@ -47,25 +48,25 @@ module _ (m : Meaning) (s : State) (t : ℕ) (free : ℕ) where
 
 module _ {P : Type 0} (r : Resolver P) (m n : Meaning) (t free : ℕ) where
   -- refused by the rules, or for want of room
-  pub fed_refused : (l : Lexeme) (s' : State) (why : Reason) → r.sheet ≡ Some t → Good l → s' ≡ standing r → Moves r.contexts (stack r.contexts r.depth) (mark_of r.before l) (lexeme l) free m n (Err why) → Fed (over m (standing r)) t l free (over n s') (Err why)
+  pub fed_refused : (l : Lexeme) (s' : State) (why : Reason) → r.sheet ≡ Some t → Good l → s' ≡ standing r → Moves r.contexts.items (mark_of r.before l) (lexeme l) free m n (Err why) → Fed (over m (standing r)) t l free (over n s') (Err why)
   fed_refused l s' why e b same (Moves.refused (Tries.stopped run) took) = Fed.denied (FeedFails.stopped e b (from_start run)) same took
   fed_refused l s' why e b same (Moves.refused (Tries.not_whole run w) took) = absurd (w tt)
   fed_refused l s' why e b same (Moves.refused (Tries.no_room run w f) took) = Fed.denied (FeedFails.no_room e b (from_start run) f) same took
 
-  pub finished_refused : (p : Place) (s' : State) (why : Reason) → r.sheet ≡ Some t → s' ≡ standing r → Moves r.contexts (stack r.contexts r.depth) (end_mark r.before) (ending p) free m n (Err why) → Finished (over m (standing r)) t p free (over n s') (Err why)
+  pub finished_refused : (p : Place) (s' : State) (why : Reason) → r.sheet ≡ Some t → s' ≡ standing r → Moves r.contexts.items (end_mark r.before) (ending p) free m n (Err why) → Finished (over m (standing r)) t p free (over n s') (Err why)
   finished_refused p s' why e same (Moves.refused (Tries.stopped run) took) = Finished.denied (FinishFails.stopped e (from_start run)) same took
   finished_refused p s' why e same (Moves.refused (Tries.not_whole run w) took) = Finished.denied (FinishFails.not_complete e (from_start run) w) same took
   finished_refused p s' why e same (Moves.refused (Tries.no_room run w f) took) = Finished.denied (FinishFails.no_room e (from_start run) w f) same took
 
   -- accepted
-  pub fed_accepted : (l : Lexeme) (s' : State) (d : Draft) → r.sheet ≡ Some t → Good l → s' ≡ record { sheet = r.sheet; next = next_of r.next; contexts = contexts_of r.contexts d; before = after l.kind; written = [] }
-      → Moves r.contexts (stack r.contexts r.depth) (mark_of r.before l) (lexeme l) free m n (Ok d) → Fed (over m (standing r)) t l free (over n s') (Ok d)
+  pub fed_accepted : (l : Lexeme) (s' : State) (d : Draft) → r.sheet ≡ Some t → Good l → s' ≡ record { sheet = r.sheet; next = next_of r.next; contexts = contexts_of r.contexts.items d; before = after l.kind; written = [] }
+      → Moves r.contexts.items (mark_of r.before l) (lexeme l) free m n (Ok d) → Fed (over m (standing r)) t l free (over n s') (Ok d)
   fed_accepted l s' d e b same (Moves.accepted x (Tries.fits run w f) tokens contexts shallow took) =
       Fed.accepted x e b (from_start run) f tokens (same ∙ ap (λ ks. record { sheet = r.sheet; next = next_of r.next; contexts = ks; before = after l.kind; written = [] }) (sym contexts)) took
 
-  pub finished_accepted : (p : Place) (s' : State) (d : Draft) → r.sheet ≡ Some t → s' ≡ shut (standing r) → Moves r.contexts (stack r.contexts r.depth) (end_mark r.before) (ending p) free m n (Ok d) → Finished (over m (standing r)) t p free (over n s') (Ok d)
+  pub finished_accepted : (p : Place) (s' : State) (d : Draft) → r.sheet ≡ Some t → s' ≡ shut (standing r) → Moves r.contexts.items (end_mark r.before) (ending p) free m n (Ok d) → Finished (over m (standing r)) t p free (over n s') (Ok d)
   finished_accepted p s' d e same (Moves.accepted x (Tries.fits run w f) tokens contexts shallow took) = Finished.accepted x e (from_start run) w f tokens same took
 
 -- all but the parser is as before, so the sheet stands as before
 pub beside_standing : {P : Type 0} (r q : Resolver P) → Beside r q → standing q ≡ standing r
-beside_standing r q same = λ i. record { sheet = same.sheet i; next = next_of (same.next i); contexts = stack (same.contexts i) (same.depth i); before = same.last i; written = [] }
+beside_standing r q same = λ i. record { sheet = same.sheet i; next = next_of (same.next i); contexts = stacked (same.contexts i).items; before = same.last i; written = [] }

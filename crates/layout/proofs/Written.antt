@@ -1,10 +1,9 @@
 -- The tokens of a draft, counted and written one after another. Assumes nothing.
-use Rattle.std.proofs.Common.{◌≡◌, ℕ, ◌+◌, ◌≤◌, Bool, true, false, List, [], ◌∷◌, ◌++◌, map, length, replicate, sym, refl, ap, ◌∙◌, subst, arith, length-append}
+use Rattle.std.proofs.Common.{◌≡◌, ℕ, ◌+◌, ◌≤◌, Bool, true, false, not, List, [], ◌∷◌, ◌++◌, map, length, replicate, sym, refl, ap, ◌∙◌, subst, arith, length-append}
 use lib.LanesLaws.{map-replicate}
 use lib.ListN.{length-replicate}
 use mir.Val.{bool_byte}
 use Rattle.std.proofs.lemmas.List.{append_assoc, length-map, map-append}
-use Rattle.std.proofs.lemmas.Bool.{false≢true, true≢false}
 use Rattle.sheet.specs.declared.lexeme.Lexeme.{Lexeme}
 use Rattle.sheet.specs.declared.lexeme.Place.{Place}
 use Rattle.sheet.specs.Tokens.{written}
@@ -40,13 +39,9 @@ count_tokens d =
     )
 
 -- how many tokens are written of the end, and of a lexeme
-pub count_end : (c : Coming) (d : Draft) → is_end c ≡ true → length (drafted_tokens c d) ≡ length (tokens_of d)
-count_end (lexeme l) d e = absurd (false≢true e)
-count_end (ending p) d e = length-map (tokens_of d) (inserted (ending p))
-
-pub count_lexeme : (c : Coming) (d : Draft) → is_end c ≡ false → length (drafted_tokens c d) ≡ length (tokens_of d) + 1
-count_lexeme (lexeme l) d e = omega (arith, length-append (map (inserted (lexeme l)) (tokens_of d)) (written l ∷ []), length-map (tokens_of d) (inserted (lexeme l)))
-count_lexeme (ending p) d e = absurd (true≢false e)
+pub count_drafted : (c : Coming) (d : Draft) → length (drafted_tokens c d) ≡ length (tokens_of d) + bool_byte (not (is_end c))
+count_drafted (lexeme l) d = omega (arith, length-append (map (inserted (lexeme l)) (tokens_of d)) (written l ∷ []), length-map (tokens_of d) (inserted (lexeme l)))
+count_drafted (ending p) d = omega (arith, length-map (tokens_of d) (inserted (ending p)))
 
 -- the tokens that a draft inserts, part by part
 pub inserted_parts : (c : Coming) (d : Draft) → map (inserted c) (tokens_of d) ≡ replicate (bool_byte d.brace) (inserted c 3) ++ (replicate d.closes (inserted c 4) ++ (replicate (bool_byte d.separator) (inserted c 5) ++ replicate d.closes_after (inserted c 4)))
@@ -72,5 +67,4 @@ pub drafted_at_end : (c : Coming) (p : Place) (d : Draft) → c ≡ ending p →
 drafted_at_end c p d e = subst (λ (x : Coming). drafted_tokens x d ≡ map (inserted x) (tokens_of d)) (sym e) refl
 
 pub inserted_fewer : (c : Coming) (d : Draft) → length (tokens_of d) ≤ length (drafted_tokens c d)
-inserted_fewer (lexeme l) d = omega (arith, count_lexeme (lexeme l) d refl)
-inserted_fewer (ending p) d = omega (arith, count_end (ending p) d refl)
+inserted_fewer c d = omega (arith, count_drafted c d)

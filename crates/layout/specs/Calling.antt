@@ -6,7 +6,7 @@ use Rattle.sheet.specs.declared.fault.Reason.{Reason}
 use Rattle.sheet.specs.declared.lexeme.Lexeme.{Lexeme}
 use Rattle.sheet.specs.declared.lexeme.Place.{Place}
 use Rattle.sheet.specs.declared.lexeme.Token.{Token}
-use Rattle.layout.specs.Contexts.{stack}
+use Rattle.layout.specs.Contexts.{stacked}
 use Rattle.layout.specs.Drafts.{drafted_tokens}
 use Rattle.layout.specs.Layout.{kinds}
 use Rattle.layout.specs.Limits.{Laid}
@@ -30,7 +30,7 @@ next_of (Some n) = n
 
 -- where a resolver stands; what was written before is in its parser, so it counts as nothing here
 abbrev pub standing : {P : Type 0} → Resolver P → State
-standing r = record { sheet = r.sheet; next = next_of r.next; contexts = stack r.contexts r.depth; before = r.before; written = [] }
+standing r = record { sheet = r.sheet; next = next_of r.next; contexts = stacked r.contexts.items; before = r.before; written = [] }
 
 -- with the sheet closed
 abbrev pub shut : State → State

@@ -1,10 +1,14 @@
 -- The contexts of the open blocks as a list, with the innermost first. Assumes nothing.
-use Rattle.std.specs.Prelude.{ℕ, zero, suc, ◌+◌, ◌<◌, Bool, true, cond, ◌&&◌, ◌||◌, List, [], ◌∷◌, Some, None, Option, ◌==◌, nat_lt, slice_index}
+use Rattle.std.specs.Prelude.{ℕ, zero, suc, ◌+◌, ◌<◌, Bool, true, cond, ◌&&◌, ◌||◌, List, [], ◌∷◌, length, Some, None, Option, ◌==◌, nat_lt, slice_index}
 
 -- the first d of some contexts, which stand with the outermost first
 abbrev pub stack : List ℕ → ℕ → List ℕ
 stack cs zero = []
 stack cs (suc d) = slice_index cs d ∷ stack cs d
+
+-- all of them
+abbrev pub stacked : List ℕ → List ℕ
+stacked cs = stack cs (length cs)
 
 -- a context may stand above others: an implicit one exceeds the one beneath it
 abbrev pub above : ℕ → List ℕ → Bool
@@ -17,9 +21,9 @@ rises [] = true
 rises (k ∷ ks) = above k ks && rises ks
 
 -- without a sheet no block is open
-abbrev pub idle : Option ℕ → ℕ → Bool
-idle None depth = depth == 0
-idle (Some n) depth = true
+abbrev pub idle : Option ℕ → List ℕ → Bool
+idle None ks = length ks == 0
+idle (Some n) ks = true
 
 -- how many contexts are of implicit blocks
 abbrev pub implicit_among : List ℕ → ℕ

@@ -9,7 +9,7 @@ use Rattle.sheet.specs.declared.fault.Reason.{Reason}
 use Rattle.sheet.specs.declared.fault.Reason.TheVariants.{TooDeep, NotViable, ReachSpent}
 use Rattle.sheet.specs.declared.lexeme.Token.{Token}
 use Rattle.sheet.specs.Tokens.{written}
-use Rattle.layout.specs.Contexts.{stack}
+use Rattle.layout.specs.Contexts.{stack, stacked}
 use Rattle.layout.specs.Layout.{kinds}
 use Rattle.layout.specs.Limits.{Goes, Laid, Room, Runs}
 use Rattle.layout.specs.Marks.{inserted}
@@ -107,7 +107,7 @@ drafted_tokens (lexeme l) d = map (inserted (lexeme l)) (tokens_of d) ++ written
 drafted_tokens (ending p) d = map (inserted (ending p)) (tokens_of d)
 
 -- the rules over what comes, as the code has them: a draft of what they write and leave, with the parser moved on, or why they stop
-pub data Laying (cs ks : List ℕ) (m : Option Mark) (c : Coming) (before now : Meaning) : Result Draft Reason → Type 0 where
-  laid : {d : Draft} → (x : Laid) → Runs before.remainder [] before.left ks m c (Ok x) → x.tokens ≡ drafted_tokens c d → x.contexts ≡ contexts_of cs d → d.depth ≤ length ks
-      → Alike now (after (kinds x.tokens) before) → Laying cs ks m c before now (Ok d)
-  stopped : {why : Reason} → Runs before.remainder [] before.left ks m c (Err why) → Bound now before → Laying cs ks m c before now (Err why)
+pub data Laying (cs : List ℕ) (m : Option Mark) (c : Coming) (before now : Meaning) : Result Draft Reason → Type 0 where
+  laid : {d : Draft} → (x : Laid) → Runs before.remainder [] before.left (stacked cs) m c (Ok x) → x.tokens ≡ drafted_tokens c d → x.contexts ≡ contexts_of cs d → d.depth ≤ length cs
+      → Alike now (after (kinds x.tokens) before) → Laying cs m c before now (Ok d)
+  stopped : {why : Reason} → Runs before.remainder [] before.left (stacked cs) m c (Err why) → Bound now before → Laying cs m c before now (Err why)

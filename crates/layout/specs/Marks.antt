@@ -1,5 +1,6 @@
 -- What comes next in a sheet, and the mark before it. Assumes nothing.
 use Rattle.std.specs.Prelude.{◌≡◌, ℕ, Bool, true, false, cond, ◌||◌, ◌==◌, None, Option, Some}
+use Rattle.std.specs.Coded.{Unit-prop, →_prop}
 use Rattle.sheet.specs.declared.lexeme.Lexeme.{Lexeme}
 use Rattle.sheet.specs.declared.lexeme.Token.{Token}
 use Rattle.layout.specs.declared.rule.Before.{Before}
@@ -59,3 +60,9 @@ abbrev pub Fitting : Option Mark → Coming → Type 0
 Fitting None c = Unit {0}
 Fitting (Some Line) c = Unit {0}
 Fitting (Some Block) c = kind c ≡ 3 → ⊥
+
+-- which has one proof at most
+pub Fitting-prop : (m : Option Mark) (c : Coming) → IsProp (Fitting m c)
+Fitting-prop None c = Unit-prop
+Fitting-prop (Some Line) c = Unit-prop
+Fitting-prop (Some Block) c = →_prop (λ x y. absurd x)

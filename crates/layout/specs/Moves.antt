@@ -5,6 +5,7 @@ use Rattle.parser.specs.Runs.{after as after_kinds}
 use Rattle.parser.specs.Sets.{Lists, Same}
 use Rattle.sheet.specs.declared.fault.Reason.{Reason}
 use Rattle.sheet.specs.declared.fault.Reason.TheVariants.{NoRoom, NotComplete}
+use Rattle.layout.specs.Contexts.{stacked}
 use Rattle.layout.specs.Drafts.{Bound, contexts_of, drafted_tokens}
 use Rattle.layout.specs.Layout.{kinds}
 use Rattle.layout.specs.Limits.{Laid, Runs}
@@ -39,21 +40,20 @@ pub data Tries (R : Lists) (left : ℕ) (ks : List ℕ) (m : Option Mark) (c : C
   no_room : {x : Laid} → Runs R [] left ks m c (Ok x) → Whole R c x → free < length x.tokens → Tries R left ks m c free (Err NoRoom)
 
 -- a draft of what is accepted, with the parser moved on, or why it is refused, with the parser as before
-pub data Moves (cs ks : List ℕ) (m : Option Mark) (c : Coming) (free : ℕ) (before after : Meaning) : Result Draft Reason → Type 0 where
-  accepted : {d : Draft} → (x : Laid) → Tries before.remainder before.left ks m c free (Ok x) → x.tokens ≡ drafted_tokens c d → x.contexts ≡ contexts_of cs d → d.depth ≤ length ks
-      → Took (kinds x.tokens) before after → Moves cs ks m c free before after (Ok d)
-  refused : {why : Reason} → Tries before.remainder before.left ks m c free (Err why) → Took [] before after → Moves cs ks m c free before after (Err why)
+pub data Moves (cs : List ℕ) (m : Option Mark) (c : Coming) (free : ℕ) (before after : Meaning) : Result Draft Reason → Type 0 where
+  accepted : {d : Draft} → (x : Laid) → Tries before.remainder before.left (stacked cs) m c free (Ok x) → x.tokens ≡ drafted_tokens c d → x.contexts ≡ contexts_of cs d → d.depth ≤ length cs
+      → Took (kinds x.tokens) before after → Moves cs m c free before after (Ok d)
+  refused : {why : Reason} → Tries before.remainder before.left (stacked cs) m c free (Err why) → Took [] before after → Moves cs m c free before after (Err why)
 
 -- the same while the parser is still marked: a refusal may leave it moved
-pub data Attempts (cs ks : List ℕ) (m : Option Mark) (c : Coming) (free : ℕ) (before after : Meaning) : Result Draft Reason → Type 0 where
-  accepted : {d : Draft} → (x : Laid) → Tries before.remainder before.left ks m c free (Ok x) → x.tokens ≡ drafted_tokens c d → x.contexts ≡ contexts_of cs d → d.depth ≤ length ks
-      → Alike after (after_kinds (kinds x.tokens) before) → Attempts cs ks m c free before after (Ok d)
-  refused : {why : Reason} → Tries before.remainder before.left ks m c free (Err why) → Bound after before → Attempts cs ks m c free before after (Err why)
+pub data Attempts (cs : List ℕ) (m : Option Mark) (c : Coming) (free : ℕ) (before after : Meaning) : Result Draft Reason → Type 0 where
+  accepted : {d : Draft} → (x : Laid) → Tries before.remainder before.left (stacked cs) m c free (Ok x) → x.tokens ≡ drafted_tokens c d → x.contexts ≡ contexts_of cs d → d.depth ≤ length cs
+      → Alike after (after_kinds (kinds x.tokens) before) → Attempts cs m c free before after (Ok d)
+  refused : {why : Reason} → Tries before.remainder before.left (stacked cs) m c free (Err why) → Bound after before → Attempts cs m c free before after (Err why)
 
 -- all but the parser is as before
 pub record Beside {P : Type 0} (before after : Resolver P) : Type 0 where
   pub contexts : after.contexts ≡ before.contexts
-  pub depth : after.depth ≡ before.depth
   pub last : after.before ≡ before.before
   pub sheet : after.sheet ≡ before.sheet
   pub next : after.next ≡ before.next

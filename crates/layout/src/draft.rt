@@ -13,7 +13,7 @@ use sheet::{Kind, Reason};
 // At most so many blocks are open.
 pub const MOST_BLOCKS: usize = 64;
 
-#[derive(Clone, Copy)]
+#[derive(Clone, Copy, Default)]
 pub struct Draft {
     // How many contexts of the sheet stay open.
     pub depth: usize,
@@ -35,11 +35,7 @@ impl Draft {
     {
         Draft {
             depth,
-            opened: None,
-            brace: false,
-            closes: 0,
-            separator: false,
-            closes_after: 0,
+            ..Draft::default()
         }
     }
 
@@ -48,13 +44,7 @@ impl Draft {
         requires { self.depth ≤ length contexts.now }
         ensures { result ≡ innermost_of (contexts_of contexts.now self) }
     {
-        if self.opened.is_some() {
-            self.opened
-        } else if self.depth == 0 {
-            None
-        } else {
-            Some(contexts[self.depth - 1])
-        }
+        self.opened.or(contexts[..self.depth].last().copied())
     }
 
     // How many blocks are open.
@@ -62,26 +52,18 @@ impl Draft {
         requires { self.depth ≤ 64 }
         ensures { (cs : List ℕ) → result ≡ length (contexts_of cs self) }
     {
-        if self.opened.is_some() {
-            self.depth + 1
-        } else {
-            self.depth
-        }
+        self.depth + usize::from(self.opened.is_some())
     }
 
     // How many tokens are written of what comes: those inserted before it, and the lexeme itself.
     pub fn count(self, coming: &Coming) -> usize
         ensures { result ≡ length (drafted_tokens coming.now self) }
     {
-        let inserted = usize::from(self.brace)
+        usize::from(self.brace)
             + self.closes as usize
             + usize::from(self.separator)
-            + self.closes_after as usize;
-        if coming.is_end() {
-            inserted
-        } else {
-            inserted + 1
-        }
+            + self.closes_after as usize
+            + usize::from(!coming.is_end())
     }
 
     // Without the innermost block.
@@ -92,19 +74,15 @@ impl Draft {
         ensures opened { is_some result.opened ≡ false }
         ensures row { (result.separator ≡ self.separator) × (result.closes_after ≡ self.closes_after) }
     {
-        if self.opened.is_some() {
-            Draft {
+        match self.opened {
+            Some(_) => Draft {
                 opened: None,
                 ..self
-            }
-        } else if self.depth == 0 {
-            self
-        } else {
-            Draft {
-                depth: self.depth - 1,
-                opened: None,
+            },
+            None => Draft {
+                depth: self.depth.saturating_sub(1),
                 ..self
-            }
+            },
         }
     }
 
@@ -181,7 +159,7 @@ fn has_room(kind: u32, blocks: usize) -> bool
     kind != Kind::OpenBrace.number() || blocks < MOST_BLOCKS
 }
 
-// A parser's refusal as a fault's reason.
+// A parser's refusal as a fault's reason. Neither type is of this crate, so no `From` can stand here.
 fn reason_of(refused: Refused) -> Reason
     ensures { result ≡ reason_of refused }
 {
@@ -198,10 +176,7 @@ pub fn take_token<P: Stepping>(parser: &mut P, kind: u32, blocks: usize) -> Resu
     if !has_room(kind, blocks) {
         return Err(Reason::TooDeep);
     }
-    match parser.take(kind) {
-        Ok(()) => Ok(()),
-        Err(refused) => Err(reason_of(refused)),
-    }
+    parser.take(kind).map_err(reason_of)
 }
 
 // Has the parser take inserted tokens one after another, and drafts them.

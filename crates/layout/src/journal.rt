@@ -1,7 +1,7 @@
 // Runs of calls on a new resolver, made one after another and written down. The law of every run stands here.
 ghost use Rattle.std.specs.Prelude.{◌≡◌, ◌≤◌, [], ◌++◌, IfOk, OnOk};
 ghost use Rattle.parser.specs.Sets.{Same};
-ghost use Rattle.queue.specs.Waiting.{room, waiting};
+ghost use Rattle.queue.specs.Waiting.{room, SamePlaces, waiting};
 ghost use Rattle.layout.specs.Calling.{stand, Writes};
 ghost use Rattle.layout.specs.Journaled.{Noted, Replayed, free_places};
 ghost use Rattle.layout.specs.Law.{Law};
@@ -15,7 +15,8 @@ use sheet::{Fault, Token};
 use std::alloc::{AllocError, Global};
 
 // The answers of a run, a call each, and all tokens that its calls wrote, one after another: an answer that counts
-// tells how many of them are its own.
+// tells how many of them are its own. Two lists and no list of pairs, since the law of every run speaks of the answers
+// and of all tokens in order.
 #[derive(Drop)]
 pub struct Journal {
     pub answers: Vec<Answer>,
@@ -83,9 +84,11 @@ fn make<P: Stepping>(resolver: &mut Resolver<P>, call: Call, queue: &mut Queue<'
     }
 }
 
-// Takes all waiting tokens out of a queue and writes them down.
-fn drain(queue: &mut Queue<'_, Token>, tokens: &mut Vec<Token>) -> Result<(), AllocError>
-    ensures { OnOk result (tokens.new.items ≡ tokens.old.items ++ waiting queue.old) }
+// Takes all waiting tokens out of a queue and writes them down behind others.
+pub fn drain(queue: &mut Queue<'_, Token>, tokens: &mut Vec<Token>) -> Result<(), AllocError>
+    ensures kept { OnOk result (tokens.new.items ≡ tokens.old.items ++ waiting queue.old) }
+    ensures emptied { OnOk result (waiting queue.new ≡ []) }
+    ensures places { SamePlaces queue.old queue.new }
 {
     while let Some(token) = queue.take() {
         tokens.push(token)?;

@@ -7,13 +7,16 @@ mod call;
 mod draft;
 mod journal;
 mod lay;
+mod marked;
 mod resolver;
 mod rule;
+#[cfg(test)]
+mod tests;
 mod ticket;
 mod write;
 
 pub use call::{Answer, Call};
-pub use journal::{Journal, Journals, replay, replay_both};
+pub use journal::{Journal, Journals, drain, replay, replay_both};
 pub use resolver::{OpenBlocks, Resolver};
 pub use rule::{Before, Coming, Mark, Rule, rule_at};
 pub use ticket::{Refusal, Ticket};

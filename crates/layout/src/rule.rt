@@ -169,10 +169,7 @@ impl Coming {
     pub fn is_end(&self) -> bool
         ensures { result ≡ is_end self.now }
     {
-        match self {
-            Coming::Lexeme(_) => false,
-            Coming::End(_) => true,
-        }
+        matches!(self, Coming::End(_))
     }
 }
 
@@ -181,16 +178,9 @@ fn rule_at_line(column: u32, innermost: Option<u32>) -> Rule
     ensures { result ≡ line_rule column innermost }
 {
     match innermost {
-        None => Rule::DropMark,
-        Some(context) => {
-            if context == column {
-                Rule::Separate
-            } else if context > column {
-                Rule::CloseShallower
-            } else {
-                Rule::DropMark
-            }
-        }
+        Some(context) if context == column => Rule::Separate,
+        Some(context) if context > column => Rule::CloseShallower,
+        _ => Rule::DropMark,
     }
 }
 
@@ -198,11 +188,7 @@ fn rule_at_line(column: u32, innermost: Option<u32>) -> Rule
 fn rule_at_block(column: u32, innermost: Option<u32>) -> Rule
     ensures { result ≡ block_rule column innermost }
 {
-    let around = match innermost {
-        None => 0,
-        Some(context) => context,
-    };
-    if column > around {
+    if column > innermost.unwrap_or(0) {
         Rule::OpenBlock
     } else {
         Rule::EmptyBlock
@@ -234,12 +220,9 @@ fn rule_at_end(innermost: Option<u32>) -> Rule
 fn must_close<P: Probing>(parser: &P, kind: u32, innermost: Option<u32>) -> bool
     ensures { (ks : List ℕ) → innermost_of ks ≡ innermost → Decides result (MustClose (P.remainder parser.now) [] kind ks) }
 {
-    match innermost {
-        None => false,
-        Some(context) => context > 0
-            && !parser.viable(kind)
-            && parser.viable(Kind::CloseBrace.number()),
-    }
+    innermost.is_some_and(|context| context > 0)
+        && !parser.viable(kind)
+        && parser.viable(Kind::CloseBrace.number())
 }
 
 // The rule at a lexeme without a mark.

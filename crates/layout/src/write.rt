@@ -15,14 +15,14 @@ impl Coming {
     fn inserted(&self, token: Insert) -> Token
         ensures { result ≡ inserted self.now (insert_kind token) }
     {
-        let (line, column) = match self {
-            Coming::Lexeme(lexeme) => (lexeme.line, lexeme.column),
-            Coming::End(place) => (place.line, place.column),
+        let place = match self {
+            Coming::Lexeme(lexeme) => lexeme.place(),
+            Coming::End(place) => *place,
         };
         Token {
             kind: token.kind().number(),
-            line,
-            column,
+            line: place.line,
+            column: place.column,
             offset: 0,
             length: 0,
         }
@@ -60,9 +60,10 @@ impl Draft {
         put_times(queue, close, self.closes_after);
     }
 
-    // Writes all tokens: those inserted before what comes, and the lexeme itself.
-    pub fn write(self, coming: &Coming, queue: &mut Queue<'_, Token>)
+    // Writes all tokens, those inserted before what comes and the lexeme itself, and answers how many.
+    pub fn write(self, coming: &Coming, queue: &mut Queue<'_, Token>) -> usize
         requires { length (drafted_tokens coming.now self) ≤ room queue.old }
+        ensures count { result ≡ length (drafted_tokens coming.now self) }
         ensures list { waiting queue.new ≡ waiting queue.old ++ drafted_tokens coming.now self }
         ensures places { SamePlaces queue.old queue.new }
     {
@@ -70,5 +71,6 @@ impl Draft {
         if let Coming::Lexeme(lexeme) = coming {
             let _ = queue.put(Token::from(*lexeme));
         }
+        self.count(coming)
     }
 }

@@ -3,17 +3,22 @@ ghost use Rattle.std.specs.Prelude.{◌≡◌, ◌+◌, ◌^◌, ◌<◌, [], If
 ghost use Rattle.parser.specs.Meaning.{meaning, started};
 ghost use Rattle.queue.specs.Waiting.{room, SamePlaces, waiting};
 ghost use Rattle.layout.specs.Calling.{begin_answer, Calls, feed_answer, finish_answer, give_up_answer, next_of, stand, standing, Writes};
+ghost use Rattle.layout.specs.Contexts.{stacked};
+ghost use Rattle.layout.specs.First.{innermost_of};
 ghost use Rattle.layout.specs.Moves.{Took};
 ghost use Rattle.layout.specs.Service.{fault, new};
 ghost use Rattle.layout.specs.declared.call.Call.TheVariants.{Begin, Feed, Finish, GiveUp};
 
 use super::Resolver;
-use crate::draft::MOST_BLOCKS;
 use crate::rule::{Before, Coming};
 use crate::ticket::{Refusal, Ticket};
+use arrayvec::ArrayVec;
 use parser::Stepping;
 use queue::Queue;
 use sheet::{Fault, Lexeme, Place, Reason, Token};
+
+// The place of a refusal that no place of a sheet was given for.
+const NOWHERE: Place = Place { line: 0, column: 0 };
 
 // The number after another, if there is any.
 fn following(number: u64) -> Option<u64>
@@ -24,20 +29,22 @@ fn following(number: u64) -> Option<u64>
 }
 
 impl<P> Resolver<P> {
-    // A refusal at a place, with the innermost context.
-    fn fault(&self, reason: Reason, line: u32, column: u32) -> Fault
-        ensures { result ≡ fault (standing self.now) line column reason }
+    // The innermost context.
+    pub(super) fn innermost(&self) -> Option<u32>
+        ensures { result ≡ innermost_of (stacked self.now.contexts.items) }
     {
-        let context = if self.depth == 0 {
-            None
-        } else {
-            Some(self.contexts[self.depth - 1])
-        };
+        self.contexts.last().copied()
+    }
+
+    // A refusal at a place, with the innermost context.
+    fn fault(&self, reason: Reason, place: Place) -> Fault
+        ensures { result ≡ fault (standing self.now) place.line place.column reason }
+    {
         Fault {
             reason,
-            line,
-            column,
-            context,
+            line: place.line,
+            column: place.column,
+            context: self.innermost(),
         }
     }
 }
@@ -52,8 +59,7 @@ impl<P: Stepping> Resolver<P> {
         parser.start();
         Resolver {
             parser,
-            contexts: [0; MOST_BLOCKS],
-            depth: 0,
+            contexts: ArrayVec::new(),
             before: Before::Nothing,
             sheet: None,
             next: Some(first),
@@ -65,13 +71,12 @@ impl<P: Stepping> Resolver<P> {
         ensures { Calls (stand P.Stepping self.old) Begin (begin_answer result) [] (stand P.Stepping self.new) }
     {
         if self.sheet.is_some() {
-            return Err(self.fault(Reason::SheetOpen, 0, 0));
+            return Err(self.fault(Reason::SheetOpen, NOWHERE));
         }
         let Some(number) = self.next else {
-            return Err(self.fault(Reason::NumbersSpent, 0, 0));
+            return Err(self.fault(Reason::NumbersSpent, NOWHERE));
         };
         self.parser.start();
-        self.depth = 0;
         self.before = Before::Nothing;
         self.sheet = Some(number);
         self.next = following(number);
@@ -91,13 +96,11 @@ impl Ticket {
         ensures places { SamePlaces queue.old queue.new }
     {
         match resolver.feed_directly(self.number, &lexeme, queue.free()) {
-            Some(fed) => match fed {
-                Ok(()) => {
-                    let _ = queue.put(Token::from(lexeme));
-                    Ok(1)
-                }
-                Err(reason) => Err(resolver.fault(reason, lexeme.line, lexeme.column)),
-            },
+            Some(Ok(())) => {
+                let _ = queue.put(Token::from(lexeme));
+                Ok(1)
+            }
+            Some(Err(reason)) => Err(resolver.fault(reason, lexeme.place())),
             None => self.feed_by_rules(resolver, lexeme, queue),
         }
     }
@@ -113,12 +116,8 @@ impl Ticket {
         ensures places { SamePlaces queue.old queue.new }
     {
         match resolver.feed_lexeme(self.number, lexeme, queue.free()) {
-            Ok(draft) => {
-                let coming = Coming::Lexeme(lexeme);
-                draft.write(&coming, queue);
-                Ok(draft.count(&coming))
-            }
-            Err(reason) => Err(resolver.fault(reason, lexeme.line, lexeme.column)),
+            Ok(draft) => Ok(draft.write(&Coming::Lexeme(lexeme), queue)),
+            Err(reason) => Err(resolver.fault(reason, lexeme.place())),
         }
     }
 
@@ -137,13 +136,11 @@ impl Ticket {
         match resolver.finish_sheet(self.number, end, queue.free()) {
             Ok(draft) => {
                 let Ticket { number: _ } = self;
-                let coming = Coming::End(end);
-                draft.write(&coming, queue);
-                Ok(draft.count(&coming))
+                Ok(draft.write(&Coming::End(end), queue))
             }
             Err(reason) => Err(Refusal {
                 ticket: self,
-                fault: resolver.fault(reason, end.line, end.column),
+                fault: resolver.fault(reason, end),
             }),
         }
     }
@@ -156,7 +153,7 @@ impl Ticket {
         if !resolver.is_open(self.number) {
             return Err(Refusal {
                 ticket: self,
-                fault: resolver.fault(Reason::WrongTicket, 0, 0),
+                fault: resolver.fault(Reason::WrongTicket, NOWHERE),
             });
         }
         let Ticket { number: _ } = self;

@@ -1,9 +1,9 @@
 // What comes is tried on the parser: the parser takes its tokens, or is as before.
 ghost use Rattle.std.specs.Prelude.{◌≡◌, ℕ, ◌≤◌, [], Decides, MatchOption, None as none};
+ghost use Rattle.arrayvec.specs.ArrayVec.{array_vec_len};
 ghost use Rattle.parser.specs.Meaning.{SameMark, absent, meaning};
-ghost use Rattle.layout.specs.Contexts.{Implicit, stack};
+ghost use Rattle.layout.specs.Contexts.{Implicit, stacked};
 ghost use Rattle.layout.specs.Drafts.{alone};
-ghost use Rattle.layout.specs.Marks.{Fitting};
 ghost use Rattle.layout.specs.Moves.{Attempts, Beside, Moves, Took, WholeAt};
 ghost use Rattle.layout.specs.Rules.{Plain};
 ghost use Rattle.layout.specs.declared.rule.Coming.TheVariants.{Lexeme as lexeme'};
@@ -11,7 +11,8 @@ ghost use Rattle.layout.specs.declared.rule.Coming.TheVariants.{Lexeme as lexeme
 use super::Resolver;
 use crate::draft::Draft;
 use crate::lay::lay;
-use crate::rule::{Coming, Mark};
+use crate::marked::Marked;
+use crate::rule::Coming;
 use parser::{Probing, Refused, Stepping};
 use sheet::{Kind, Lexeme, Reason};
 
@@ -35,16 +36,15 @@ pub(super) fn is_plain(lexeme: &Lexeme) -> bool
 impl<P: Stepping> Resolver<P> {
     // The rules over what comes, with the parser asked on the way. The parser takes the tokens also where they are
     // refused later: the caller marks it before.
-    fn attempt(&mut self, coming: &Coming, mark: Option<Mark>, free: usize) -> Result<Draft, Reason>
-        requires { Fitting mark coming.now }
-        ensures told { Attempts self.old.contexts (stack self.old.contexts self.old.depth) mark coming.now free (meaning P.Stepping self.old.parser) (meaning P.Stepping self.new.parser) result }
+    fn attempt(&mut self, marked: &Marked, free: usize) -> Result<Draft, Reason>
+        ensures told { Attempts self.old.contexts.items marked.now.mark marked.now.coming free (meaning P.Stepping self.old.parser) (meaning P.Stepping self.new.parser) result }
         ensures beside { Beside self.old self.new }
     {
-        let draft = lay(&mut self.parser, &self.contexts, self.depth, coming, mark)?;
-        if !is_whole(&self.parser, coming) {
+        let draft = lay(&mut self.parser, self.contexts.as_slice(), marked)?;
+        if !is_whole(&self.parser, &marked.coming) {
             return Err(Reason::NotComplete);
         }
-        if free < draft.count(coming) {
+        if free < draft.count(&marked.coming) {
             return Err(Reason::NoRoom);
         }
         Ok(draft)
@@ -52,19 +52,13 @@ impl<P: Stepping> Resolver<P> {
 
     // The rules over what comes: the parser takes the tokens if all is accepted, and else is as before. It is left
     // without a mark.
-    pub(super) fn advance(
-        &mut self,
-        coming: &Coming,
-        mark: Option<Mark>,
-        free: usize,
-    ) -> Result<Draft, Reason>
-        requires { Fitting mark coming.now }
-        ensures told { Moves self.old.contexts (stack self.old.contexts self.old.depth) mark coming.now free (meaning P.Stepping self.old.parser) (meaning P.Stepping self.new.parser) result }
+    pub(super) fn advance(&mut self, marked: &Marked, free: usize) -> Result<Draft, Reason>
+        ensures told { Moves self.old.contexts.items marked.now.mark marked.now.coming free (meaning P.Stepping self.old.parser) (meaning P.Stepping self.new.parser) result }
         ensures beside { Beside self.old self.new }
         ensures unmarked { SameMark (P.Stepping.saved self.new.parser) absent }
     {
         self.parser.mark();
-        let tried = self.attempt(coming, mark, free);
+        let tried = self.attempt(marked, free);
         match tried {
             Ok(_) => self.parser.keep(),
             Err(_) => self.parser.back(),
@@ -74,30 +68,23 @@ impl<P: Stepping> Resolver<P> {
 
     // Whether the innermost block is implicit, so that it may close before a lexeme that is not viable.
     fn may_close(&self) -> bool
-        ensures { Decides result (Implicit (stack self.now.contexts self.now.depth)) }
+        ensures { Decides result (Implicit (stacked self.now.contexts.items)) }
     {
-        self.depth > 0 && self.contexts[self.depth - 1] > 0
+        self.innermost().is_some_and(|context| context > 0)
     }
 
     // A lexeme that has no mark and is no brace: the parser takes it at once or says why not, and nothing has to be taken
     // back. It is left open where a block may close before it.
     pub(super) fn take_directly(&mut self, lexeme: &Lexeme) -> Option<Result<(), Reason>>
         requires { Plain lexeme.now }
-        ensures told { (free : ℕ) → 1 ≤ free → MatchOption result (Took [] (meaning P.Stepping self.old.parser) (meaning P.Stepping self.new.parser)) (λ x. Moves self.old.contexts (stack self.old.contexts self.old.depth) none (lexeme' lexeme.now) free (meaning P.Stepping self.old.parser) (meaning P.Stepping self.new.parser) (alone self.old.depth x)) }
+        ensures told { (free : ℕ) → 1 ≤ free → MatchOption result (Took [] (meaning P.Stepping self.old.parser) (meaning P.Stepping self.new.parser)) (λ x. Moves self.old.contexts.items none (lexeme' lexeme.now) free (meaning P.Stepping self.old.parser) (meaning P.Stepping self.new.parser) (alone (array_vec_len self.old.contexts) x)) }
         ensures beside { Beside self.old self.new }
     {
         match self.parser.take(lexeme.kind) {
             Ok(()) => Some(Ok(())),
-            Err(refused) => match refused {
-                Refused::ReachSpent => Some(Err(Reason::ReachSpent)),
-                Refused::NotViable => {
-                    if self.may_close() {
-                        None
-                    } else {
-                        Some(Err(Reason::NotViable))
-                    }
-                }
-            },
+            Err(Refused::ReachSpent) => Some(Err(Reason::ReachSpent)),
+            Err(Refused::NotViable) if self.may_close() => None,
+            Err(Refused::NotViable) => Some(Err(Reason::NotViable)),
         }
     }
 }

@@ -22,15 +22,9 @@ impl<P> Resolver<P> {
         ensures implicit { result.implicit ≡ implicit_among (standing self.now).contexts }
         ensures idle { is_some (standing self.now).sheet ≡ false → (result.all ≡ 0) × (result.implicit ≡ 0) }
     {
-        let mut implicit = 0;
-        for i in 0..self.depth {
-            if self.contexts[i] > 0 {
-                implicit += 1;
-            }
-        }
         OpenBlocks {
-            all: self.depth,
-            implicit,
+            all: self.contexts.len(),
+            implicit: self.contexts.iter().filter(|context| **context > 0).count(),
         }
     }
 }

@@ -1,8 +1,9 @@
 // The open sheet: what is accepted of it, and how it is left where something is not.
 ghost use Rattle.std.specs.Prelude.{◌≡◌, ◌≤◌, true, [], length, is_some, Some, Decides, MatchOption, None as none};
+ghost use Rattle.arrayvec.specs.ArrayVec.{array_vec_len};
 ghost use Rattle.parser.specs.Meaning.{meaning};
 ghost use Rattle.layout.specs.Calling.{Fed, Finished, shut, stand, standing};
-ghost use Rattle.layout.specs.Contexts.{rises, stack};
+ghost use Rattle.layout.specs.Contexts.{rises, stacked};
 ghost use Rattle.layout.specs.Drafts.{alone, contexts_of};
 ghost use Rattle.layout.specs.Marks.{mark_of};
 ghost use Rattle.layout.specs.Moves.{Around, Took};
@@ -12,7 +13,8 @@ ghost use Rattle.layout.specs.Service.{Good};
 use super::Resolver;
 use super::moves::is_plain;
 use crate::draft::Draft;
-use crate::rule::{Before, Coming};
+use crate::marked::Marked;
+use crate::rule::Before;
 use parser::Stepping;
 use sheet::{Lexeme, Place, Reason};
 
@@ -23,7 +25,7 @@ const LAST_COLUMN: u32 = 4095;
 fn is_good(lexeme: &Lexeme) -> bool
     ensures { Decides result (Good lexeme.now) }
 {
-    lexeme.kind >= 1 && lexeme.kind <= 15 && lexeme.column >= 1 && lexeme.column <= LAST_COLUMN
+    (1..=15).contains(&lexeme.kind) && (1..=LAST_COLUMN).contains(&lexeme.column)
 }
 
 impl<P> Resolver<P> {
@@ -32,7 +34,7 @@ impl<P> Resolver<P> {
         ensures standing { standing self.new ≡ shut (standing self.old) }
         ensures parser { self.new.parser ≡ self.old.parser }
     {
-        self.depth = 0;
+        self.contexts.clear();
         self.sheet = None;
     }
 
@@ -40,25 +42,21 @@ impl<P> Resolver<P> {
     pub(super) fn is_open(&self, number: u64) -> bool
         ensures { Decides result (self.now.sheet ≡ Some number) }
     {
-        match self.sheet {
-            Some(open) => open == number,
-            None => false,
-        }
+        self.sheet == Some(number)
     }
 
     // Puts the contexts that a draft leaves in the place of the present ones.
     fn settle(&mut self, draft: Draft)
-        requires within { draft.depth ≤ self.old.depth }
-        requires room { length (contexts_of self.old.contexts draft) ≤ 64 }
-        requires rising { rises (contexts_of self.old.contexts draft) ≡ true }
+        requires within { draft.depth ≤ array_vec_len self.old.contexts }
+        requires room { length (contexts_of self.old.contexts.items draft) ≤ 64 }
+        requires rising { rises (contexts_of self.old.contexts.items draft) ≡ true }
         requires sheet { is_some self.old.sheet ≡ true }
-        ensures contexts { stack self.new.contexts self.new.depth ≡ contexts_of self.old.contexts draft }
+        ensures contexts { stacked self.new.contexts.items ≡ contexts_of self.old.contexts.items draft }
         ensures around { Around self.old self.new }
     {
-        self.depth = draft.depth;
+        self.contexts.truncate(draft.depth);
         if let Some(context) = draft.opened {
-            self.contexts[draft.depth] = context;
-            self.depth = draft.depth + 1;
+            self.contexts.push(context);
         }
     }
 }
@@ -82,20 +80,18 @@ impl<P: Stepping> Resolver<P> {
         lexeme: &Lexeme,
         free: usize,
     ) -> Option<Result<(), Reason>>
-        ensures { MatchOption result (Took [] (meaning P.Stepping self.old.parser) (meaning P.Stepping self.new.parser) × (standing self.new ≡ standing self.old)) (λ x. Fed (stand P.Stepping self.old) number lexeme.now free (stand P.Stepping self.new) (alone self.old.depth x)) }
+        ensures { MatchOption result (Took [] (meaning P.Stepping self.old.parser) (meaning P.Stepping self.new.parser) × (standing self.new ≡ standing self.old)) (λ x. Fed (stand P.Stepping self.old) number lexeme.now free (stand P.Stepping self.new) (alone (array_vec_len self.old.contexts) x)) }
     {
         if !self.is_direct(number, lexeme, free) {
             return None;
         }
         match self.take_directly(lexeme) {
             None => None,
-            Some(taken) => match taken {
-                Ok(()) => {
-                    self.before = Before::after(lexeme.kind);
-                    Some(Ok(()))
-                }
-                Err(reason) => Some(Err(reason)),
-            },
+            Some(Err(reason)) => Some(Err(reason)),
+            Some(Ok(())) => {
+                self.before = Before::after(lexeme.kind);
+                Some(Ok(()))
+            }
         }
     }
 
@@ -114,8 +110,8 @@ impl<P: Stepping> Resolver<P> {
         if !is_good(&lexeme) {
             return Err(Reason::BadLexeme);
         }
-        let mark = self.before.mark_of(&lexeme);
-        let draft = self.advance(&Coming::Lexeme(lexeme), mark, free)?;
+        let marked = Marked::lexeme(self.before, lexeme);
+        let draft = self.advance(&marked, free)?;
         self.settle(draft);
         self.before = Before::after(lexeme.kind);
         Ok(draft)
@@ -133,8 +129,8 @@ impl<P: Stepping> Resolver<P> {
         if !self.is_open(number) {
             return Err(Reason::WrongTicket);
         }
-        let mark = self.before.end_mark();
-        let draft = self.advance(&Coming::End(end), mark, free)?;
+        let marked = Marked::end(self.before, end);
+        let draft = self.advance(&marked, free)?;
         self.close();
         Ok(draft)
     }

@@ -1,7 +1,7 @@
 use Rattle.std.proofs.Common.{◌≡◌, map, length, get_or, take, Ok, Err, sym, ap, ◌∙◌, subst, arith, length-append, length-take}
 use Rattle.std.proofs.lemmas.List.{get_or_default, length-map}
 use Rattle.std.proofs.lemmas.Result.{err_from_is_err_and}
-use Rattle.parser.specs.Meaning.{Meaning, meaning}
+use Rattle.parser.specs.Meaning.{Meaning}
 use Rattle.layout.specs.Drafts.{Inserted, NextAll, Step, tokens_of}
 use Rattle.layout.specs.Rules.{insert_kind}
 use Rattle.layout.specs.declared.rule.Insert.{Insert}

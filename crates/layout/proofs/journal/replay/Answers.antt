@@ -1,6 +1,6 @@
 use Rattle.std.proofs.Common.{List, get_or, take, vec_items, sym, subst, arith}
 use Rattle.std.proofs.lemmas.List.{take_all, take_more}
-use Rattle.parser.specs.Meaning.{Meaning, meaning}
+use Rattle.parser.specs.Meaning.{Meaning}
 use Rattle.parser.proofs.Meanings.{same_sym}
 use Rattle.layout.specs.Calling.{standing}
 use Rattle.layout.specs.Journaled.{Replayed}

@@ -1,5 +1,4 @@
 use Rattle.std.proofs.Common.{◌+◌, ◌*◌, length}
-use Rattle.layout.specs.Contexts.{stack}
 use Rattle.layout.specs.Drafts.{contexts_of}
 use Rattle.layout.proofs.Running.{Running, rank}
 use Rattle.layout.proofs.lay.lay.Given as goal
@@ -7,7 +6,7 @@ use Rattle.parser.proofs.Bound.{means}
 
 abbrev pub invariant-loop-inserted : goal.invariant-loop-inserted
 invariant-loop-inserted g l =
-    Running l.contexts (stack l.contexts l.depth) l.initial.mark l.coming
+    Running l.contexts l.marked.mark l.marked.coming
     (means g.P.Stepping g.P.Probing l.initial.parser) l.draft l.mark
     (means g.P.Stepping g.P.Probing l.parser)
 

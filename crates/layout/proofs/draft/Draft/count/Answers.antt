@@ -1,9 +1,7 @@
-use Rattle.std.proofs.Common.{sym, ◌∙◌, arith}
-use Rattle.layout.proofs.Written.{count_end, count_lexeme, count_tokens}
+use Rattle.std.proofs.Common.{not, ap, arith}
+use mir.Val.{bool_byte}
+use Rattle.layout.proofs.Written.{count_drafted, count_tokens}
 use Rattle.layout.proofs.draft.Draft.count.Goals as goal
 
-pub returns-then-is_end : goal.returns-then-is_end
-returns-then-is_end c = omega (arith, count_tokens c.args.self, count_end c.args.coming.now c.args.self (sym c.is_end.ensures ∙ c.if-is_end.true), c.from.ensures, c.from-2.ensures)
-
-pub returns-else-is_end : goal.returns-else-is_end
-returns-else-is_end c = omega (arith, count_tokens c.args.self, count_lexeme c.args.coming.now c.args.self (sym c.is_end.ensures ∙ c.if-is_end.false), c.from.ensures, c.from-2.ensures)
+pub returns : goal.returns
+returns c = omega (arith, count_tokens c.args.self, count_drafted c.args.coming.now c.args.self, c.from.ensures, c.from-2.ensures, c.from-3.ensures, ap (λ b. bool_byte (not b)) c.is_end.ensures)

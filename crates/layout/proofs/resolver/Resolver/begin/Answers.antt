@@ -1,6 +1,8 @@
-use Rattle.std.proofs.Common.{[], Some, sym, ap, ◌∙◌}
-use Rattle.parser.specs.Meaning.{Meaning, meaning}
+use Rattle.std.proofs.Common.{[], Some, sym, ◌∙◌}
+use Rattle.parser.specs.Meaning.{Meaning}
 use Rattle.layout.specs.declared.rule.Before.TheVariants.{Nothing}
+use Rattle.layout.specs.Contexts.{stacked}
+use Rattle.layout.proofs.Stacks.{idle_none}
 use Rattle.layout.proofs.Answered.{begins_new, begins_open, begins_spent}
 use Rattle.layout.proofs.resolver.Resolver.begin.Given as given
 use Rattle.layout.proofs.resolver.Resolver.begin.Goals as goal
@@ -24,4 +26,4 @@ pub returns : goal.returns
 returns g c =
     let r = c.args.self.now in
     begins_new (of g r.parser) r (of g c.start.new.self) _ c.in-Some.number (sym c.is_some.ensures ∙ c.if-is_some.false) c.in-Some.is c.following-self.ensures.range
-    (ap (λ n. record { sheet = Some c.in-Some.number; next = n; contexts = []; before = Nothing; written = [] }) c.following-self.ensures.value) c.start.ensures
+    (λ i. record { sheet = Some c.in-Some.number; next = c.following-self.ensures.value i; contexts = stacked (idle_none r.sheet r.contexts.items r.bare (sym c.is_some.ensures ∙ c.if-is_some.false) i); before = Nothing; written = [] }) c.start.ensures

@@ -1,14 +1,15 @@
-use Rattle.std.proofs.Common.{[], length, is_some, Ok, Err, sym, ap, ◌∙◌, subst, arith, Option}
+use Rattle.std.proofs.Common.{[], length, is_some, Ok, Err, sym, ap, ◌∙◌, subst, arith}
 use Rattle.std.proofs.lemmas.Result.{err_from_is_err_and}
 use Rattle.std.proofs.lemmas.Bool.{false≢true}
-use Rattle.parser.specs.Meaning.{Meaning, meaning}
+use Rattle.parser.specs.Meaning.{Meaning}
 use Rattle.layout.specs.Calling.{Fed, next_of, over, standing}
-use Rattle.layout.specs.Contexts.{rises, stack}
+use Rattle.arrayvec.specs.ArrayVec.{array_vec_len}
+use Rattle.layout.specs.Contexts.{rises}
 use Rattle.layout.specs.Drafts.{contexts_of}
 use Rattle.layout.specs.Marks.{mark_of}
 use Rattle.layout.specs.Moves.{Moves}
 use Rattle.layout.specs.declared.rule.Coming.TheVariants.{Lexeme as lexeme}
-use Rattle.layout.specs.declared.rule.Mark.{Mark}
+use Rattle.layout.proofs.Moving.{moves_at}
 use Rattle.layout.proofs.Sheets.{beside_standing, fed_accepted, fed_bad, fed_refused, fed_wrong, moves_sound}
 use Rattle.layout.proofs.resolver.Resolver.feed_lexeme.Given as given
 use Rattle.layout.proofs.resolver.Resolver.feed_lexeme.Goals as goal
@@ -36,7 +37,7 @@ returns-in_err-draft g c =
     subst (Fed (over (of g r.parser) (standing r)) c.args.number c.args.lexeme c.args.free (over (of g q.parser) (standing q))) (sym (turned.1 ∙ ap Err turned.2))
     (fed_refused r (of g r.parser) (of g q.parser) c.args.number c.args.free c.args.lexeme (standing q) c.in_err-draft.field-0.0 (c.is_open.ensures.0 c.if-not-is_open.false) (c.is_good.ensures.0 c.if-not-is_good.false)
     (beside_standing r q c.advance.ensures.beside)
-    (subst (λ (x : Option Mark). Moves r.contexts (stack r.contexts r.depth) x (lexeme c.args.lexeme) c.args.free (of g r.parser) (of g q.parser) (Err c.in_err-draft.field-0.0)) c.mark_of-mark.ensures.value c.in_err-draft.ensures.told))
+    (moves_at c.lexeme-marked.ensures.mark c.lexeme-marked.ensures.coming c.in_err-draft.ensures.told))
 
 pub settle-requires : goal.settle-requires
 settle-requires g c =
@@ -44,11 +45,11 @@ settle-requires g c =
     let q = c.advance.new.self in
     let d = c.in_ok-draft.draft in
     let beside = c.advance.ensures.beside in
-    let sound = moves_sound r c.mark_of-mark.result (lexeme c.args.lexeme) c.args.free (of g r.parser) (of g q.parser) d c.in_ok-draft.ensures.told in
+    let sound = moves_sound r c.lexeme-marked.result.mark c.lexeme-marked.result.coming c.args.free (of g r.parser) (of g q.parser) d c.in_ok-draft.ensures.told in
     record {
-      within = omega (arith, sound.1, beside.depth);
-      room = omega (arith, sound.0.few, ap (λ cs. length (contexts_of cs d)) beside.contexts);
-      rising = ap (λ cs. rises (contexts_of cs d)) beside.contexts ∙ sound.0.rising;
+      within = omega (arith, sound.1, ap array_vec_len beside.contexts);
+      room = omega (arith, sound.0.few, ap (λ v. length (contexts_of v.items d)) beside.contexts);
+      rising = ap (λ v. rises (contexts_of v.items d)) beside.contexts ∙ sound.0.rising;
       sheet = ap is_some (beside.sheet ∙ c.is_open.ensures.0 c.if-not-is_open.false);
     }
 
@@ -64,9 +65,9 @@ returns g c =
     (λ i. record {
       sheet = (around.sheet ∙ beside.sheet) i;
       next = next_of ((around.next ∙ beside.next) i);
-      contexts = (c.settle.ensures.contexts ∙ ap (λ cs. contexts_of cs d) beside.contexts) i;
+      contexts = (c.settle.ensures.contexts ∙ ap (λ v. contexts_of v.items d) beside.contexts) i;
       before = c.after-self.ensures i;
       written = [];
     })
-    (subst (λ p. Moves r.contexts (stack r.contexts r.depth) (mark_of r.before c.args.lexeme) (lexeme c.args.lexeme) c.args.free (of g r.parser) (of g p) (Ok d)) (sym around.parser)
-    (subst (λ (x : Option Mark). Moves r.contexts (stack r.contexts r.depth) x (lexeme c.args.lexeme) c.args.free (of g r.parser) (of g q.parser) (Ok d)) c.mark_of-mark.ensures.value c.in_ok-draft.ensures.told))
+    (subst (λ p. Moves r.contexts.items (mark_of r.before c.args.lexeme) (lexeme c.args.lexeme) c.args.free (of g r.parser) (of g p) (Ok d)) (sym around.parser)
+    (moves_at c.lexeme-marked.ensures.mark c.lexeme-marked.ensures.coming c.in_ok-draft.ensures.told))

@@ -1,13 +1,12 @@
-use Rattle.std.proofs.Common.{Ok, Err, sym, ap, ◌∙◌, subst, Option}
+use Rattle.std.proofs.Common.{Ok, Err, sym, ap, ◌∙◌, subst}
 use Rattle.std.proofs.lemmas.Result.{err_from_is_err_and}
 use Rattle.std.proofs.lemmas.Bool.{false≢true}
-use Rattle.parser.specs.Meaning.{Meaning, meaning}
+use Rattle.parser.specs.Meaning.{Meaning}
 use Rattle.layout.specs.Calling.{Finished, over, shut, standing}
-use Rattle.layout.specs.Contexts.{stack}
 use Rattle.layout.specs.Marks.{end_mark}
 use Rattle.layout.specs.Moves.{Moves}
 use Rattle.layout.specs.declared.rule.Coming.TheVariants.{End as ending}
-use Rattle.layout.specs.declared.rule.Mark.{Mark}
+use Rattle.layout.proofs.Moving.{moves_at}
 use Rattle.layout.proofs.Sheets.{beside_standing, finished_accepted, finished_refused, finished_wrong}
 use Rattle.layout.proofs.resolver.Resolver.finish_sheet.Given as given
 use Rattle.layout.proofs.resolver.Resolver.finish_sheet.Goals as goal
@@ -30,7 +29,7 @@ returns-in_err-draft g c =
     subst (Finished (over (of g r.parser) (standing r)) c.args.number c.args.end c.args.free (over (of g q.parser) (standing q))) (sym (turned.1 ∙ ap Err turned.2))
     (finished_refused r (of g r.parser) (of g q.parser) c.args.number c.args.free c.args.end (standing q) c.in_err-draft.field-0.0 (c.is_open.ensures.0 c.if-not-is_open.false)
     (beside_standing r q c.advance.ensures.beside)
-    (subst (λ (x : Option Mark). Moves r.contexts (stack r.contexts r.depth) x (ending c.args.end) c.args.free (of g r.parser) (of g q.parser) (Err c.in_err-draft.field-0.0)) c.end_mark-mark.ensures c.in_err-draft.ensures.told))
+    (moves_at c.end-marked.ensures.mark c.end-marked.ensures.coming c.in_err-draft.ensures.told))
 
 pub returns : goal.returns
 returns g c =
@@ -40,5 +39,5 @@ returns g c =
     let d = c.in_ok-draft.draft in
     finished_accepted r (of g r.parser) (of g z.parser) c.args.number c.args.free c.args.end (standing z) d (c.is_open.ensures.0 c.if-not-is_open.false)
     (c.close.ensures.standing ∙ ap shut (beside_standing r q c.advance.ensures.beside))
-    (subst (λ p. Moves r.contexts (stack r.contexts r.depth) (end_mark r.before) (ending c.args.end) c.args.free (of g r.parser) (of g p) (Ok d)) (sym c.close.ensures.parser)
-    (subst (λ (x : Option Mark). Moves r.contexts (stack r.contexts r.depth) x (ending c.args.end) c.args.free (of g r.parser) (of g q.parser) (Ok d)) c.end_mark-mark.ensures c.in_ok-draft.ensures.told))
+    (subst (λ p. Moves r.contexts.items (end_mark r.before) (ending c.args.end) c.args.free (of g r.parser) (of g p) (Ok d)) (sym c.close.ensures.parser)
+    (moves_at c.end-marked.ensures.mark c.end-marked.ensures.coming c.in_ok-draft.ensures.told))

@@ -1,7 +1,8 @@
 use Rattle.std.proofs.Common.{Err, sym, refl, ◌∙◌, subst}
 use Rattle.std.proofs.lemmas.Bool.{false≢true}
-use Rattle.parser.specs.Meaning.{Meaning, Takes, meaning}
+use Rattle.parser.specs.Meaning.{Meaning, Takes}
 use Rattle.parser.specs.declared.Refused.{Refused}
+use Rattle.arrayvec.specs.ArrayVec.{array_vec_len}
 use Rattle.layout.specs.Drafts.{empty}
 use Rattle.layout.proofs.Direct.{direct_spent, direct_taken, direct_unviable, took_same}
 use Rattle.layout.proofs.resolver.Resolver.take_directly.Given as given
@@ -17,31 +18,31 @@ returns-in-Ok g c =
     let r = c.args.self.now in
     let told = c.in-Ok.ensures in
     record {
-      told = λ free some. direct_taken r.contexts r.depth c.args.lexeme.now (of g r.parser) (of g c.take.new.self) (empty r.depth) c.requires refl refl (refl, refl, refl, refl) r.shallow told.0 told.1 told.2 free some;
-      beside = record { contexts = refl; depth = refl; last = refl; sheet = refl; next = refl };
+      told = λ free some. direct_taken r.contexts.items c.args.lexeme.now (of g r.parser) (of g c.take.new.self) (empty (array_vec_len r.contexts)) c.requires refl refl (refl, refl, refl, refl) r.shallow told.0 told.1 told.2 free some;
+      beside = record { contexts = refl; last = refl; sheet = refl; next = refl };
     }
 
-pub returns-in-ReachSpent : goal.returns-in-ReachSpent
-returns-in-ReachSpent g c =
+pub returns-in-Err-ReachSpent : goal.returns-in-Err-ReachSpent
+returns-in-Err-ReachSpent g c =
     let r = c.args.self.now in
-    let told = subst (λ (x : Refused). Takes c.args.lexeme.now.kind (of g r.parser) (Err x) (of g c.take.new.self)) c.in-ReachSpent.is c.in-Err.ensures in
+    let told = subst (λ (x : Refused). Takes c.args.lexeme.now.kind (of g r.parser) (Err x) (of g c.take.new.self)) c.in-Err-ReachSpent.field-0-is c.in-Err-ReachSpent.ensures in
     record {
-      told = λ free some. direct_spent r.contexts r.depth c.args.lexeme.now (of g r.parser) (of g c.take.new.self) (empty r.depth) c.requires refl refl (refl, refl, refl, refl) r.shallow told.0 told.1 told.2 free;
-      beside = record { contexts = refl; depth = refl; last = refl; sheet = refl; next = refl };
+      told = λ free some. direct_spent r.contexts.items c.args.lexeme.now (of g r.parser) (of g c.take.new.self) (empty (array_vec_len r.contexts)) c.requires refl refl (refl, refl, refl, refl) r.shallow told.0 told.1 told.2 free;
+      beside = record { contexts = refl; last = refl; sheet = refl; next = refl };
     }
 
-pub returns-then-may_close : goal.returns-then-may_close
-returns-then-may_close g c =
+pub returns-in-Err-NotViable : goal.returns-in-Err-NotViable
+returns-in-Err-NotViable g c =
     let r = c.args.self.now in
-    let told = subst (λ (x : Refused). Takes c.args.lexeme.now.kind (of g r.parser) (Err x) (of g c.take.new.self)) c.in-NotViable.is c.in-Err.ensures in
-    record { told = λ free some. took_same (of g r.parser) (of g c.take.new.self) told.1; beside = record { contexts = refl; depth = refl; last = refl; sheet = refl; next = refl } }
+    let told = subst (λ (x : Refused). Takes c.args.lexeme.now.kind (of g r.parser) (Err x) (of g c.take.new.self)) c.in-Err-NotViable.field-0-is c.in-Err-NotViable.ensures in
+    record { told = λ free some. took_same (of g r.parser) (of g c.take.new.self) told.1; beside = record { contexts = refl; last = refl; sheet = refl; next = refl } }
 
-pub returns-else-may_close : goal.returns-else-may_close
-returns-else-may_close g c =
+pub returns-in-Err-NotViable-2 : goal.returns-in-Err-NotViable-2
+returns-in-Err-NotViable-2 g c =
     let r = c.args.self.now in
-    let told = subst (λ (x : Refused). Takes c.args.lexeme.now.kind (of g r.parser) (Err x) (of g c.take.new.self)) c.in-NotViable.is c.in-Err.ensures in
+    let told = subst (λ (x : Refused). Takes c.args.lexeme.now.kind (of g r.parser) (Err x) (of g c.take.new.self)) c.in-Err-NotViable.field-0-is c.in-Err-NotViable.ensures in
     record {
-      told = λ free some. direct_unviable r.contexts r.depth c.args.lexeme.now (of g r.parser) (of g c.take.new.self) (empty r.depth) c.requires refl refl (refl, refl, refl, refl) r.shallow told.0
+      told = λ free some. direct_unviable r.contexts.items c.args.lexeme.now (of g r.parser) (of g c.take.new.self) (empty (array_vec_len r.contexts)) c.requires refl refl (refl, refl, refl, refl) r.shallow told.0
           (λ i. false≢true (sym c.if-may_close.false ∙ c.may_close.ensures.1 i)) told.1 free;
-      beside = record { contexts = refl; depth = refl; last = refl; sheet = refl; next = refl };
+      beside = record { contexts = refl; last = refl; sheet = refl; next = refl };
     }

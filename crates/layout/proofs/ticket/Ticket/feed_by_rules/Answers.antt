@@ -1,6 +1,8 @@
-use Rattle.std.proofs.Common.{ℕ, Ok, Err, refl, subst, arith}
-use Rattle.parser.specs.Meaning.{Meaning, meaning}
+use Rattle.std.proofs.Common.{ℕ, Ok, Err, ap, ◌∙◌, subst, arith}
+use Rattle.parser.specs.Meaning.{Meaning}
 use Rattle.queue.specs.Waiting.{waiting}
+use Rattle.sheet.specs.declared.lexeme.Place.{Place}
+use Rattle.layout.specs.Service.{fault}
 use Rattle.layout.specs.Calling.{Fed, over, standing}
 use Rattle.layout.proofs.Answered.{fed_denied, fed_room, fed_writes}
 use Rattle.layout.proofs.ticket.Ticket.feed_by_rules.Given as given
@@ -26,8 +28,8 @@ returns-in-Ok g c =
     let d = c.in-Ok.draft in
     let t = c.args.self.now.number in
     record {
-      writes = fed_writes (of g r.parser) r (of g z.parser) (standing z) t _ l d c.count.result (waiting c.args.queue.now) (waiting c.write.new.queue)
-          (subst (λ (n : ℕ). Fed (over (of g r.parser) (standing r)) t l n (over (of g z.parser) (standing z)) (Ok d)) c.free.ensures c.in-Ok.ensures) c.write.ensures.list c.count.ensures;
+      writes = fed_writes (of g r.parser) r (of g z.parser) (standing z) t _ l d c.write.result (waiting c.args.queue.now) (waiting c.write.new.queue)
+          (subst (λ (n : ℕ). Fed (over (of g r.parser) (standing r)) t l n (over (of g z.parser) (standing z)) (Ok d)) c.free.ensures c.in-Ok.ensures) c.write.ensures.list c.write.ensures.count;
       places = c.write.ensures.places;
     }
 
@@ -39,6 +41,6 @@ returns-in-Err g c =
     let t = c.args.self.now.number in
     record {
       writes = fed_denied (of g r.parser) r (of g z.parser) (standing z) t _ l c.in-Err.reason c.fault.result (waiting c.args.queue.now)
-          (subst (λ (n : ℕ). Fed (over (of g r.parser) (standing r)) t l n (over (of g z.parser) (standing z)) (Err c.in-Err.reason)) c.free.ensures c.in-Err.ensures) c.fault.ensures;
+          (subst (λ (n : ℕ). Fed (over (of g r.parser) (standing r)) t l n (over (of g z.parser) (standing z)) (Err c.in-Err.reason)) c.free.ensures c.in-Err.ensures) (c.fault.ensures ∙ ap (λ (p : Place). fault (standing z) p.line p.column c.in-Err.reason) c.place.ensures);
       places = same_places _;
     }

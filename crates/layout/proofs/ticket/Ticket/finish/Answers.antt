@@ -1,5 +1,5 @@
 use Rattle.std.proofs.Common.{ℕ, Ok, Err, refl, subst, arith}
-use Rattle.parser.specs.Meaning.{Meaning, meaning}
+use Rattle.parser.specs.Meaning.{Meaning}
 use Rattle.queue.specs.Waiting.{waiting}
 use Rattle.layout.specs.Calling.{Finished, over, standing}
 use Rattle.layout.proofs.Answered.{finished_denied, finished_room, finished_writes}
@@ -27,8 +27,8 @@ returns-in-Ok g c =
     let t = c.args.self.number in
     record {
       ticket = tt;
-      writes = finished_writes (of g r.parser) r (of g z.parser) (standing z) t _ p d c.count.result (waiting c.args.queue.now) (waiting c.write.new.queue)
-          (subst (λ (n : ℕ). Finished (over (of g r.parser) (standing r)) t p n (over (of g z.parser) (standing z)) (Ok d)) c.free.ensures c.in-Ok.ensures) c.write.ensures.list c.count.ensures;
+      writes = finished_writes (of g r.parser) r (of g z.parser) (standing z) t _ p d c.write.result (waiting c.args.queue.now) (waiting c.write.new.queue)
+          (subst (λ (n : ℕ). Finished (over (of g r.parser) (standing r)) t p n (over (of g z.parser) (standing z)) (Ok d)) c.free.ensures c.in-Ok.ensures) c.write.ensures.list c.write.ensures.count;
       places = c.write.ensures.places;
     }
 

@@ -1,6 +1,6 @@
 use Rattle.std.proofs.Common.{[], sym, refl, ◌∙◌, subst}
 use Rattle.std.proofs.lemmas.Bool.{false≢true}
-use Rattle.parser.specs.Meaning.{Meaning, meaning}
+use Rattle.parser.specs.Meaning.{Meaning}
 use Rattle.layout.specs.Calling.{Calls, over, standing}
 use Rattle.layout.specs.declared.call.Answer.TheVariants.{Closed}
 use Rattle.layout.specs.declared.call.Call.TheVariants.{GiveUp}

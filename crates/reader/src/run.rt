@@ -1,43 +1,36 @@
 // Runs of bytes: how far a name or a number reaches, and which names are keywords.
-ghost use Rattle.std.specs.Prelude.{◌≡◌, ◌<◌, ◌≤◌, false, length};
+ghost use Rattle.std.specs.Prelude.{◌≡◌, ◌<◌, ◌≤◌, Bool, false, length};
 ghost use Rattle.reader.specs.Runs.{fraction, front, fronts, number_length, word_kind};
 ghost use Rattle.std.specs.Str.{bytes_eq};
-ghost use Rattle.reader.specs.Classes.{class, is_gap};
-ghost use Rattle.reader.specs.Parts.{front_of, run_length, takes};
+ghost use Rattle.reader.specs.Classes.{class, in_digits, in_name, is_gap};
+ghost use Rattle.reader.specs.declared.class.Class.{Class};
+ghost use Rattle.reader.specs.Parts.{front_of, run_length};
 ghost use Rattle.reader.specs.Places.{byte};
 
 use crate::class::{Class, class_of};
 use sheet::Kind;
 
-// What a run goes on with.
-#[derive(Clone, Copy)]
-pub enum Part {
-    Name,
-    Digits,
+// What a name goes on with.
+fn in_name(class: Class) -> bool
+    ensures { result ≡ in_name class }
+{
+    matches!(class, Class::Letter | Class::Digit | Class::Apostrophe)
 }
 
-impl Part {
-    fn takes(self, class: Class) -> bool
-        ensures { result ≡ takes self class }
-    {
-        match self {
-            Part::Name => matches!(class, Class::Letter | Class::Digit | Class::Apostrophe),
-            Part::Digits => matches!(class, Class::Digit),
-        }
-    }
+// What digits go on with.
+fn in_digits(class: Class) -> bool
+    ensures { result ≡ in_digits class }
+{
+    matches!(class, Class::Digit)
 }
 
-// How many bytes at the front the part takes.
-pub fn front_length(bytes: &[u8], part: Part) -> usize
-    ensures value { result ≡ fronts (takes part) bytes.now }
+// How many bytes at the front are of the classes that a test passes.
+fn front_length<F: Fn(Class) -> bool>(bytes: &[u8], passes: F) -> usize
+    requires { F.IsAlwaysCallable passes }
+    ensures value { (p : Class → Bool) → ((c : Class) (r : Bool) → F.post passes c r → r ≡ p c) → result ≡ fronts p bytes.now }
     ensures within { result ≤ length bytes.now }
 {
-    for (n, byte) in bytes.iter().enumerate() {
-        if !part.takes(class_of(*byte)) {
-            return n;
-        }
-    }
-    bytes.len()
+    bytes.iter().take_while(|byte| passes(class_of(**byte))).count()
 }
 
 // How many bytes at the front are a point and digits. A point belongs to a number only if a digit follows.
@@ -48,7 +41,7 @@ fn fraction_length(bytes: &[u8]) -> usize
     let [b'.', rest @ ..] = bytes else {
         return 0;
     };
-    match front_length(rest, Part::Digits) {
+    match front_length(rest, in_digits) {
         0 => 0,
         digits => 1 + digits,
     }
@@ -59,7 +52,7 @@ pub fn number_length(bytes: &[u8]) -> usize
     ensures value { result ≡ number_length bytes.now }
     ensures within { result ≤ length bytes.now }
 {
-    let whole = front_length(bytes, Part::Digits);
+    let whole = front_length(bytes, in_digits);
     whole + fraction_length(&bytes[whole..])
 }
 
@@ -107,7 +100,7 @@ pub fn front_run(bytes: &[u8]) -> Option<Run>
     // for the processor.
     let class = class_of(bytes[0]);
     if let Class::Letter = class {
-        let length = front_length(bytes, Part::Name);
+        let length = front_length(bytes, in_name);
         let kind = word_kind(&bytes[0..length]);
         Some(Run { kind, length })
     } else if let Class::Sign(kind) = class {

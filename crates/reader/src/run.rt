@@ -1,7 +1,6 @@
 // Runs of bytes: how far a name or a number reaches, and which names are keywords.
 ghost use Rattle.std.specs.Prelude.{◌≡◌, ◌<◌, ◌≤◌, Bool, false, length};
 ghost use Rattle.reader.specs.Runs.{fraction, front, fronts, number_length, word_kind};
-ghost use Rattle.std.specs.Str.{bytes_eq};
 ghost use Rattle.reader.specs.Classes.{class, in_digits, in_name, is_gap};
 ghost use Rattle.reader.specs.declared.class.Class.{Class};
 ghost use Rattle.reader.specs.Parts.{front_of, run_length};
@@ -30,7 +29,10 @@ fn front_length<F: Fn(Class) -> bool>(bytes: &[u8], passes: F) -> usize
     ensures value { (p : Class → Bool) → ((c : Class) (r : Bool) → F.post passes c r → r ≡ p c) → result ≡ fronts p bytes.now }
     ensures within { result ≤ length bytes.now }
 {
-    bytes.iter().take_while(|byte| passes(class_of(**byte))).count()
+    bytes
+        .iter()
+        .take_while(|byte| passes(class_of(**byte)))
+        .count()
 }
 
 // How many bytes at the front are a point and digits. A point belongs to a number only if a digit follows.
@@ -48,7 +50,7 @@ fn fraction_length(bytes: &[u8]) -> usize
 }
 
 // How many bytes at the front are a number.
-pub fn number_length(bytes: &[u8]) -> usize
+fn number_length(bytes: &[u8]) -> usize
     ensures value { result ≡ number_length bytes.now }
     ensures within { result ≤ length bytes.now }
 {
@@ -56,29 +58,17 @@ pub fn number_length(bytes: &[u8]) -> usize
     whole + fraction_length(&bytes[whole..])
 }
 
-// Whether a name is a keyword.
-fn is(word: &[u8], keyword: &[u8]) -> bool
-    ensures { result ≡ bytes_eq word.now keyword.now }
-{
-    word == keyword
-}
-
 // The kind of a name: five names are keywords.
-pub fn word_kind(word: &[u8]) -> Kind
+fn word_kind(word: &[u8]) -> Kind
     ensures { result ≡ word_kind word.now }
 {
-    if is(word, b"let") {
-        Kind::Let
-    } else if is(word, b"in") {
-        Kind::In
-    } else if is(word, b"where") {
-        Kind::Where
-    } else if is(word, b"of") {
-        Kind::Of
-    } else if is(word, b"do") {
-        Kind::Do
-    } else {
-        Kind::Name
+    match word {
+        b"let" => Kind::Let,
+        b"in" => Kind::In,
+        b"where" => Kind::Where,
+        b"of" => Kind::Of,
+        b"do" => Kind::Do,
+        _ => Kind::Name,
     }
 }
 

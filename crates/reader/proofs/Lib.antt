@@ -2,6 +2,7 @@ pub mod Fronts
 pub mod Steps
 pub mod Places
 pub mod Solid
+pub mod Here
 pub mod Finds
 pub mod Readings
 pub mod Chains

@@ -1,6 +1,6 @@
 // Why a text is not read, and why a reading stops before its end.
 ghost use Rattle.std.specs.Prelude.{◌≡◌};
-ghost use Rattle.reader.specs.declared.stop.Stop.TheVariants.{Full as full_stop};
+ghost use Rattle.reader.specs.declared.stop.Stop.TheVariants.{Fault as fault_stop, Full as full_stop};
 ghost use Rattle.reader.specs.Refusals.{too_long_number};
 
 use queue::Full;
@@ -24,6 +24,14 @@ impl TooLong {
 pub enum Stop {
     Fault(Fault),
     Full(Full),
+}
+
+impl From<Fault> for Stop {
+    ghost from_gives = { λ x r. r ≡ fault_stop x };
+
+    fn from(fault: Fault) -> Stop {
+        Stop::Fault(fault)
+    }
 }
 
 impl From<Full> for Stop {

@@ -1,5 +1,5 @@
 -- Where a reader stands in its text. Assumes nothing.
-use Rattle.std.proofs.Common.{◌≡◌, ℕ, ◌+◌, ◌*◌, ◌<◌, ◌≤◌, length, ap, arith}
+use Rattle.std.proofs.Common.{◌+◌, ◌*◌, ◌<◌, ◌≤◌, ap, arith}
 use Rattle.reader.specs.Cursors.{Placed}
 use Rattle.reader.specs.Reading.{offset_of, text_of}
 use Rattle.reader.specs.declared.cursor.Cursor.{Cursor}
@@ -16,15 +16,15 @@ placed_here r =
       first = ap (λ (x : Cursor). x.first) r.spotted;
     }
 
--- its place is that of one of 65,535 bytes
+-- what a text of at most 65,535 bytes leaves for a place in it
 pub record Small (c : Cursor) : Type 0 where
   pub offset : c.offset < 65536
   pub line : c.line ≤ 1 + c.offset
   pub from : 1 ≤ c.column
   pub to : c.column ≤ 1 + 8 * c.offset
 
-pub small_here : (r : Reader) → Small r.here
-small_here r =
+pub small : (r : Reader) → Small r.here
+small r =
     let placed = placed_here r in
     let bounds = column_bounds (text_of r) (offset_of r) in
     record {

@@ -2,8 +2,8 @@ pub mod Fronts
 pub mod Steps
 pub mod Places
 pub mod Solid
-pub mod Here
 pub mod Finds
+pub mod Here
 pub mod Readings
 pub mod Chains
 pub mod Pieces

@@ -11,35 +11,28 @@ pub struct Cursor {
 }
 
 impl Cursor {
-    // After a line end of so many bytes.
-    pub fn after_line_end(self, bytes: usize) -> Cursor
-        requires { (self.offset + bytes < 65537) × (self.line < 65537) }
-        ensures { result ≡ record { offset = self.offset + bytes; line = self.line + 1; column = 1; first = true } }
+    // Goes past a line end of so many bytes.
+    pub fn pass_line_end(&mut self, bytes: usize)
+        requires { (self.old.offset + bytes < 65537) × (self.old.line < 65537) }
+        ensures { self.new ≡ record { offset = self.old.offset + bytes; line = self.old.line + 1; column = 1; first = true } }
     {
-        Cursor {
-            offset: self.offset + bytes,
-            line: self.line + 1,
-            column: 1,
-            first: true,
-        }
+        self.offset += bytes;
+        self.line += 1;
+        self.column = 1;
+        self.first = true;
     }
 
-    // After a blank: a tab leads on to the next tab stop.
-    pub fn after_blank(self, byte: u8) -> Cursor
-        requires { (self.offset < 65536) × ((1 ≤ self.column) × (self.column ≤ 1 + 8 * self.offset)) }
-        ensures { result ≡ record { offset = self.offset + 1; line = self.line; column = next_column byte self.column; first = self.first } }
+    // Goes past a blank: a tab leads on to the next tab stop.
+    pub fn pass_blank(&mut self, byte: u8)
+        requires { (self.old.offset < 65536) × ((1 ≤ self.old.column) × (self.old.column ≤ 1 + 8 * self.old.offset)) }
+        ensures { self.new ≡ record { offset = self.old.offset + 1; line = self.old.line; column = next_column byte self.old.column; first = self.old.first } }
     {
-        let column = if byte == b'\t' {
+        self.column = if byte == b'\t' {
             self.column + 8 - (self.column - 1) % 8
         } else {
             self.column + 1
         };
-        Cursor {
-            offset: self.offset + 1,
-            line: self.line,
-            column,
-            first: self.first,
-        }
+        self.offset += 1;
     }
 
     // After a run of so many bytes, none of them a blank or a line end.

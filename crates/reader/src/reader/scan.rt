@@ -1,7 +1,7 @@
-// One step of a reader: past what stands between lexemes, and what it finds then.
+// What stands where a reader is: first the gaps between lexemes, then a lexeme or a fault.
 ghost use Rattle.std.specs.Prelude.{◌≡◌, ◌≤◌, true, Some, MatchOption};
 ghost use Rattle.reader.specs.Classes.{class, line_end};
-ghost use Rattle.reader.specs.Cursors.{NoGap, Passed};
+ghost use Rattle.reader.specs.Cursors.{NoGap};
 ghost use Rattle.reader.specs.Found.{Ends, Finds};
 ghost use Rattle.reader.specs.Items.{items};
 ghost use Rattle.reader.specs.Places.{byte, line_end_length};
@@ -9,7 +9,6 @@ ghost use Rattle.reader.specs.Reading.{offset_of, text_of};
 
 use super::Reader;
 use crate::class::{Class, class_of};
-use crate::cursor::Cursor;
 use crate::item::{Found, fault, judge};
 use crate::run::front_run;
 use sheet::Reason;
@@ -25,21 +24,6 @@ fn line_end_length(bytes: &[u8]) -> usize
 }
 
 impl<'a> Reader<'a> {
-    // After the blank or the line end that stands here, or none where another byte or the end does.
-    fn after_gap(&self) -> Option<Cursor>
-        ensures { MatchOption result (NoGap (text_of self.now) (offset_of self.now)) (Passed (text_of self.now) (offset_of self.now)) }
-    {
-        let rest = &self.text[self.here.offset..];
-        let [byte, ..] = rest else {
-            return None;
-        };
-        match class_of(*byte) {
-            Class::Blank => Some(self.here.after_blank(*byte)),
-            Class::LineEnd => Some(self.here.after_line_end(line_end_length(rest))),
-            _ => None,
-        }
-    }
-
     // Passes all the blanks and line ends that stand here.
     pub fn pass_gaps(&mut self)
         ensures text { text_of self.new ≡ text_of self.old }
@@ -47,8 +31,15 @@ impl<'a> Reader<'a> {
         ensures stops { NoGap (text_of self.old) (offset_of self.new) }
         ensures onward { offset_of self.old ≤ offset_of self.new }
     {
-        while let Some(next) = self.after_gap() {
-            self.here = next;
+        while let [byte, ..] = &self.text[self.here.offset..] {
+            match class_of(*byte) {
+                Class::Blank => self.here.pass_blank(*byte),
+                Class::LineEnd => {
+                    let bytes = line_end_length(&self.text[self.here.offset..]);
+                    self.here.pass_line_end(bytes);
+                }
+                _ => return,
+            }
         }
     }
 

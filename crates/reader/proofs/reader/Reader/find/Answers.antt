@@ -8,7 +8,7 @@ use Rattle.reader.specs.Parts.{run_length}
 use Rattle.reader.specs.Reading.{offset_of, text_of}
 use Rattle.reader.specs.Runs.{front, run, stray}
 use Rattle.reader.proofs.Finds.{finds, judged_begins}
-use Rattle.reader.proofs.Here.{placed_here, small_here}
+use Rattle.reader.proofs.Here.{placed_here, small}
 use Rattle.reader.proofs.reader.Reader.find.Goals as goal
 use Rattle.reader.proofs.reader.Reader.find.Goals.{After-front_run}
 
@@ -30,18 +30,18 @@ inside c =
 pub after_run-requires : goal.after_run-requires
 after_run-requires c =
     let r = c.args.self.now in
-    let small = small_here r in
+    let fits = small r in
     let within = inside (goal.at.after_run-requires c).After-front_run in
     let is = ap run_length c.in-Some.is in
-    (omega (arith, within, r.short), small.to)
+    (omega (arith, within, r.short), fits.to)
 
 pub after_run-requires-in-None : goal.after_run-requires-in-None
 after_run-requires-in-None c =
     let r = c.args.self.now in
-    let small = small_here r in
+    let fits = small r in
     let within = inside (goal.at.after_run-requires-in-None c).After-front_run in
     let is = ap run_length c.in-None.is in
-    (omega (arith, within, r.short), small.to)
+    (omega (arith, within, r.short), fits.to)
 
 pub returns-in-Some : goal.returns-in-Some
 returns-in-Some c =

@@ -1,6 +1,6 @@
 use Rattle.std.proofs.Common.{◌≡◌, Err, sym, refl, ap, ◌∙◌, subst, arith}
 use Rattle.std.proofs.lemmas.Result.{err_from_is_err_and}
-use Rattle.std.proofs.lemmas.Bool.{ltb-false, ltb-true, true≢false}
+use Rattle.std.proofs.lemmas.Bool.{ltb-false, ltb-true}
 use Rattle.queue.specs.Waiting.{capacity, waiting}
 use Rattle.queue.specs.declared.ring.Queue.{Queue}
 use Rattle.sheet.specs.declared.lexeme.Lexeme.{Lexeme}
@@ -55,9 +55,9 @@ put : (c : In_ok-found) → Put c.in-Some.found.what c.loop-found.queue c.match-
 put c =
     elim c.match-found.branch [
       | in-Ok+in_ok-put w ↦
-            let done = w.in_ok-put.ensures in
-            subst (Put c.in-Some.found.what c.loop-found.queue) (sym w.queue-is)
-            (record { lexeme = w.in-Ok.lexeme; is = w.in-Ok.is; list = done.list; free = omega (arith, ltb-true 0 _ (sym done.accepts), done.left); size = done.size; lender = done.lender })
+          let done = w.in_ok-put.ensures in
+          subst (Put c.in-Some.found.what c.loop-found.queue) (sym w.queue-is)
+          (record { lexeme = w.in-Ok.lexeme; is = w.in-Ok.is; list = done.list; free = omega (arith, ltb-true 0 _ (sym done.accepts), done.left); size = done.size; lender = done.lender })
       | in_default-what w ↦ absurd (w.in_default-what.not-Ok _ c.in_ok-found.was)
     ]
 

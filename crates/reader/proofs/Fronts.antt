@@ -1,6 +1,5 @@
 -- How far a run reaches. Assumes nothing.
 use Rattle.std.proofs.Common.{◌≡◌, ℕ, zero, suc, ◌+◌, ◌-◌, ◌<◌, ◌≤◌, Bool, true, cond, List, [], ◌∷◌, length, take, drop, sym, refl, ap, ◌∙◌, one-add, arith}
-use native.Mathlib.Nat.{sub-zero}
 use Rattle.std.specs.List.{prefix_len}
 use Rattle.std.proofs.lemmas.List.{take_rest}
 use Rattle.std.proofs.lemmas.List.Sums.{prefix_len-le-length, prefix_len_passes}
@@ -46,7 +45,6 @@ front_is [] h = absurd (omega arith)
 front_is (b ∷ bs) h = refl
 
 -- a name, as the code reads it
-pub name_is : (bs : List ℕ) (k : Kind) (n : ℕ) → 0 < length bs → Letter ≡ class (byte bs 0) → n ≡ fronts in_name bs → k ≡ word_kind (take (n - 0) bs) → front bs ≡ run k n
+pub name_is : (bs : List ℕ) (k : Kind) (n : ℕ) → 0 < length bs → Letter ≡ class (byte bs 0) → n ≡ fronts in_name bs → k ≡ word_kind (take n bs) → front bs ≡ run k n
 name_is bs k n some letter long kind =
-    front_is bs some ∙ ap (λ c. front_by c bs) (sym letter) ∙ ap (λ m. run (word_kind (take m bs)) m) (sym long)
-    ∙ ap (λ w. run w n) (ap (λ m. word_kind (take m bs)) (sym (sub-zero n)) ∙ sym kind)
+    front_is bs some ∙ ap (λ c. front_by c bs) (sym letter) ∙ ap (λ m. run (word_kind (take m bs)) m) (sym long) ∙ ap (λ w. run w n) (sym kind)

@@ -86,22 +86,17 @@ pub fn front_run(bytes: &[u8]) -> Option<Run>
     ensures value { front bytes.now ≡ front_of result }
     ensures within { run_length result ≤ length bytes.now }
 {
-    // One test after another and no `match`, of which clang makes a jump table: that costs more, and is hard to foresee
-    // for the processor.
-    let class = class_of(bytes[0]);
-    if let Class::Letter = class {
-        let length = front_length(bytes, in_name);
-        let kind = word_kind(&bytes[0..length]);
-        Some(Run { kind, length })
-    } else if let Class::Sign(kind) = class {
-        Some(Run { kind, length: 1 })
-    } else if let Class::Digit = class {
-        let length = number_length(bytes);
-        Some(Run {
+    match class_of(bytes[0]) {
+        Class::Letter => {
+            let length = front_length(bytes, in_name);
+            let kind = word_kind(&bytes[..length]);
+            Some(Run { kind, length })
+        }
+        Class::Sign(kind) => Some(Run { kind, length: 1 }),
+        Class::Digit => Some(Run {
             kind: Kind::Number,
-            length,
-        })
-    } else {
-        None
+            length: number_length(bytes),
+        }),
+        _ => None,
     }
 }

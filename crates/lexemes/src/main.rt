@@ -73,10 +73,7 @@ fn main(rt: HostRuntime) -> io::Result<()> {
     let mut out = BufWriter::new(rt.alloc(), rt.stdout())?;
     match check(&text) {
         Ok(()) => write_items(&text, &mut queue, &mut out)?,
-        Err(refusal) => {
-            let number = refusal.number();
-            writeln!(out, "fault 0 0 0 {number} -")?;
-        }
+        Err(refusal) => writeln!(out, "fault {refusal}")?,
     }
     out.flush()
 }

@@ -1,8 +1,9 @@
 -- How far a run reaches. Assumes nothing.
-use Rattle.std.proofs.Common.{◌≡◌, ℕ, zero, suc, ◌+◌, ◌-◌, ◌<◌, ◌≤◌, Bool, true, false, cond, List, [], ◌∷◌, length, take, drop, sym, refl, ap, ◌∙◌, one-add, arith}
-use native.Mathlib.Nat.{sub-zero}
-use Rattle.std.proofs.lemmas.List.{drop_more, drop_all, take_rest}
-use Rattle.std.proofs.lemmas.Bool.{cond-true, cond-false, eq-eqb}
+use Rattle.std.proofs.Common.{◌≡◌, ℕ, zero, suc, ◌+◌, ◌-◌, ◌<◌, ◌≤◌, Bool, true, cond, List, [], ◌∷◌, length, take, drop, sym, refl, ap, ◌∙◌, one-add, arith}
+use Rattle.std.specs.List.{prefix_len}
+use Rattle.std.proofs.lemmas.List.{take_rest}
+use Rattle.std.proofs.lemmas.List.Sums.{prefix_len-le-length, prefix_len_passes}
+use Rattle.std.proofs.lemmas.Bool.{cond-true, eq-eqb}
 use Rattle.reader.specs.Classes.{class, in_digits, in_name}
 use Rattle.reader.specs.Places.{byte}
 use Rattle.reader.specs.Runs.{front, front_by, fronts, point_and, fraction, number_length, run, word_kind}
@@ -11,23 +12,17 @@ use Rattle.reader.specs.declared.class.Class.{Class}
 use Rattle.reader.specs.declared.class.Class.TheVariants.{Letter}
 
 module _ (p : Class → Bool) where
+  -- the library counts them by its own word
+  pub fronts_is : (bs : List ℕ) → fronts p bs ≡ prefix_len (λ b. p (class b)) bs
+  fronts_is [] = refl
+  fronts_is (b ∷ bs) = let ih = fronts_is bs in ap (λ n. cond (p (class b)) n 0) (omega arith)
+
   pub fronts_le : (bs : List ℕ) → fronts p bs ≤ length bs
-  fronts_le [] = omega arith
-  fronts_le (b ∷ bs) =
-      let ih = fronts_le bs in
-      elim (p (class b)) as (λ v. cond v (suc (fronts p bs)) 0 ≤ suc (length bs)) [ true ↦ omega arith | false ↦ omega arith ]
+  fronts_le bs = omega (arith, fronts_is bs, prefix_len-le-length (λ b. p (class b)) bs)
 
-  -- a byte that passes is one more
-  pub fronts_more : (t : List ℕ) (i : ℕ) → i < length t → p (class (byte t i)) ≡ true → fronts p (drop i t) ≡ suc (fronts p (drop (i + 1) t))
-  fronts_more t i h e = ap (fronts p) (drop_more t i 0 h) ∙ cond-true _ _ _ e
-
-  -- a byte that fails is the end
-  pub fronts_stop : (t : List ℕ) (i : ℕ) → i < length t → p (class (byte t i)) ≡ false → fronts p (drop i t) ≡ 0
-  fronts_stop t i h e = ap (fronts p) (drop_more t i 0 h) ∙ cond-false _ _ _ e
-
-  -- and so is the end of the bytes
-  pub fronts_end : (t : List ℕ) (i : ℕ) → length t ≤ i → fronts p (drop i t) ≡ 0
-  fronts_end t i h = ap (fronts p) (drop_all i t h)
+  -- the bytes that pass a test at the front do pass it
+  pub fronts_pass : (bs : List ℕ) (j : ℕ) → j < fronts p bs → p (class (byte bs j)) ≡ true
+  fronts_pass bs j h = prefix_len_passes (λ b. p (class b)) bs j 0 (omega (arith, fronts_is bs))
 
 -- a point and the digits behind it, as the code reads them
 pub fraction_is : (bs : List ℕ) (d : ℕ) → 1 ≤ length bs → byte bs 0 ≡ 46 → d ≡ fronts in_digits (take (length bs - 1) (drop 1 bs)) → fraction bs ≡ point_and d
@@ -50,7 +45,6 @@ front_is [] h = absurd (omega arith)
 front_is (b ∷ bs) h = refl
 
 -- a name, as the code reads it
-pub name_is : (bs : List ℕ) (k : Kind) (n : ℕ) → 0 < length bs → Letter ≡ class (byte bs 0) → n ≡ fronts in_name bs → k ≡ word_kind (take (n - 0) bs) → front bs ≡ run k n
+pub name_is : (bs : List ℕ) (k : Kind) (n : ℕ) → 0 < length bs → Letter ≡ class (byte bs 0) → n ≡ fronts in_name bs → k ≡ word_kind (take n bs) → front bs ≡ run k n
 name_is bs k n some letter long kind =
-    front_is bs some ∙ ap (λ c. front_by c bs) (sym letter) ∙ ap (λ m. run (word_kind (take m bs)) m) (sym long)
-    ∙ ap (λ w. run w n) (ap (λ m. word_kind (take m bs)) (sym (sub-zero n)) ∙ sym kind)
+    front_is bs some ∙ ap (λ c. front_by c bs) (sym letter) ∙ ap (λ m. run (word_kind (take m bs)) m) (sym long) ∙ ap (λ w. run w n) (sym kind)

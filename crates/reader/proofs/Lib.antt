@@ -3,6 +3,7 @@ pub mod Steps
 pub mod Places
 pub mod Solid
 pub mod Finds
+pub mod Here
 pub mod Readings
 pub mod Chains
 pub mod Pieces

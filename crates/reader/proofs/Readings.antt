@@ -4,11 +4,13 @@ use Rattle.std.proofs.lemmas.List.{append-nil, length_push, map_push}
 use Rattle.std.proofs.lemmas.Bool.{true≢false}
 use Rattle.queue.specs.Waiting.{room, SamePlaces, waiting}
 use Rattle.queue.specs.declared.ring.Queue.{Queue}
-use Rattle.queue.proofs.Laws.{same_places, same_places_on}
+use Rattle.queue.proofs.Laws.{same_places_on}
 use Rattle.sheet.specs.declared.fault.Fault.{Fault}
 use Rattle.sheet.specs.declared.lexeme.Lexeme.{Lexeme}
-use Rattle.reader.specs.Items.{Item, good, bad, items}
+use Rattle.reader.specs.Found.{Begins, Ends, Finds}
+use Rattle.reader.specs.Items.{Item, good, bad, item_of, items}
 use Rattle.reader.specs.Reading.{Reading, answer, answer_of, offset_of, reading, reads, text_of}
+use Rattle.reader.specs.declared.item.Found.{Found}
 use Rattle.reader.specs.declared.reader.Reader.{Reader}
 use Rattle.reader.specs.declared.stop.Stop.{Stop}
 use Rattle.reader.specs.declared.stop.Stop.TheVariants.{Fault as stop_fault, Full as stop_full}
@@ -40,6 +42,14 @@ pub record Sofar (r : Reader) (q : Queue Lexeme) (s : Reader) (p : Queue Lexeme)
   pub few : count ≤ offset_of s
   pub places : SamePlaces q p
 
+-- what was found is a lexeme, and was put into a queue
+pub record Put (w : Result Lexeme Fault) (p p' : Queue Lexeme) : Type 0 where
+  pub lexeme : Lexeme
+  pub is : w ≡ Ok lexeme
+  pub list : waiting p' ≡ waiting p ++ lexeme ∷ []
+  pub free : room p ≡ room p' + 1
+  pub places : SamePlaces p p'
+
 -- a reading comes out as the definition says: its answer, what then waits, and where the next one goes on
 pub record Outcome (r : Reader) (q : Queue Lexeme) (a : Result ℕ Stop) (list : List Lexeme) (next : ℕ) : Type 0 where
   pub answered : a ≡ answer (reads r q)
@@ -59,13 +69,23 @@ module _ {r : Reader} {q : Queue Lexeme} {s : Reader} {p : Queue Lexeme} {count 
       subst (λ (ys : List Item). Then sofar.ls (reading (length (text_of r)) (room q) ys) (reading (length (text_of r)) (room p) xs))
       (sym (sofar.told ∙ ap (λ ys. map good sofar.ls ++ ys) e)) (reading_puts (length (text_of r)) (room p) sofar.ls (room q) xs sofar.free)
 
-  -- past the gaps nothing is left
-  pub none_left : (j : ℕ) → items (text_of s) (offset_of s) ≡ items (text_of s) j → items (text_of s) j ≡ [] → items (text_of r) (offset_of s) ≡ []
-  none_left j same none = ap (λ t. items t (offset_of s)) (sym sofar.text) ∙ same ∙ none
+  -- blanks and line ends are passed
+  pub gaps_passed : (s' : Reader) → text_of s' ≡ text_of s → items (text_of s) (offset_of s) ≡ items (text_of s) (offset_of s') → offset_of s ≤ offset_of s' → Sofar r q s' p count
+  gaps_passed s' text same onward =
+      record {
+        ls = sofar.ls;
+        text = text ∙ sofar.text;
+        list = sofar.list;
+        counted = sofar.counted;
+        free = sofar.free;
+        told = sofar.told ∙ ap (λ x. map good sofar.ls ++ x) (rw (← sofar.text) same);
+        few = omega (arith, sofar.few);
+        places = sofar.places;
+      }
 
-  -- past the gaps an item comes first
-  pub first_left : (j k : ℕ) (x : Item) → items (text_of s) (offset_of s) ≡ items (text_of s) j → items (text_of s) j ≡ x ∷ items (text_of s) k → items (text_of r) (offset_of s) ≡ x ∷ items (text_of r) k
-  first_left j k x same told = ap (λ t. items t (offset_of s)) (sym sofar.text) ∙ same ∙ told ∙ ap (λ t. x ∷ items t k) sofar.text
+  -- what was found comes first of what is left
+  found_first : (f : Found) (found : Finds (text_of s) (offset_of s) f) → items (text_of r) (offset_of s) ≡ item_of (offset_of s) found.long f.what ∷ items (text_of r) f.after.offset
+  found_first f found = rw (← sofar.text) found.told
 
   -- a reading that puts nothing more
   halted : (xs : List Item) (stop : Option Stop) (next : ℕ) → items (text_of r) (offset_of s) ≡ xs → reading (length (text_of r)) (room p) xs ≡ record { put = []; stop = stop; next = next }
@@ -82,28 +102,41 @@ module _ {r : Reader} {q : Queue Lexeme} {s : Reader} {p : Queue Lexeme} {count 
       }
 
   -- at the end of the text
-  pub halted_at_end : items (text_of r) (offset_of s) ≡ [] → Outcome r q (Ok count) (waiting p) (length (text_of r))
-  halted_at_end e = halted [] None _ e refl
+  pub halted_at_end : Ends (text_of s) (offset_of s) → Outcome r q (Ok count) (waiting p) (offset_of s)
+  halted_at_end end = subst (Outcome r q (Ok count) (waiting p)) (sym (end.end ∙ ap length sofar.text)) (halted [] None _ (rw (← sofar.text) end.none) refl)
 
-  -- at a fault
-  pub halted_at_fault : (i n : ℕ) (f : Fault) (xs : List Item) → items (text_of r) (offset_of s) ≡ bad i n f ∷ xs → Outcome r q (Err (stop_fault f)) (waiting p) (i + n)
-  halted_at_fault i n f xs e = halted (bad i n f ∷ xs) (Some (stop_fault f)) _ e refl
+  module _ (f : Found) (found : Finds (text_of s) (offset_of s) f) where
+    -- at a fault
+    pub halted_at_fault : (x : Fault) → f.what ≡ Err x → Outcome r q (Err (stop_fault x)) (waiting p) f.after.offset
+    halted_at_fault x is =
+        let i = offset_of s in
+        subst (Outcome r q (Err (stop_fault x)) (waiting p)) (sym found.past)
+        (halted (bad i found.long x ∷ items (text_of r) f.after.offset) (Some (stop_fault x)) _ (found_first f found ∙ ap (λ w. item_of i found.long w ∷ items (text_of r) f.after.offset) is) refl)
 
-  -- before a lexeme that finds no place
-  pub halted_at_full : (l : Lexeme) (xs : List Item) → items (text_of r) (offset_of s) ≡ good l ∷ xs → room p ≡ 0 → Outcome r q (Err (stop_full (record {}))) (waiting p) l.offset
-  halted_at_full l xs e none = halted (good l ∷ xs) (Some (stop_full (record {}))) _ e (ap (λ n. reading (length (text_of r)) n (good l ∷ xs)) none)
+    -- a lexeme that was found
+    good_first : (l : Lexeme) → f.what ≡ Ok l → items (text_of r) (offset_of s) ≡ good l ∷ items (text_of r) f.after.offset
+    good_first l is = found_first f found ∙ ap (λ w. item_of (offset_of s) found.long w ∷ items (text_of r) f.after.offset) is
 
-  -- one lexeme more, up to where the next item may stand
-  pub one_more : (l : Lexeme) (s' : Reader) (p' : Queue Lexeme) → text_of s' ≡ text_of s → items (text_of r) (offset_of s) ≡ good l ∷ items (text_of r) (offset_of s') → offset_of s < offset_of s'
-      → waiting p' ≡ waiting p ++ l ∷ [] → room p ≡ room p' + 1 → SamePlaces p p' → Sofar r q s' p' (count + 1)
-  one_more l s' p' text told further list free places =
-      record {
-        ls = sofar.ls ++ l ∷ [];
-        text = text ∙ sofar.text;
-        list = list ∙ ap (λ x. x ++ l ∷ []) sofar.list ∙ append_assoc (waiting q) sofar.ls (l ∷ []);
-        counted = omega (arith, length_push sofar.ls l, sofar.counted);
-        free = omega (arith, length_push sofar.ls l, sofar.free);
-        told = sofar.told ∙ ap (λ x. map good sofar.ls ++ x) told ∙ sym (append_assoc (map good sofar.ls) (good l ∷ []) _) ∙ ap (λ x. x ++ items (text_of r) (offset_of s')) (sym (map_push good sofar.ls l));
-        few = omega (arith, sofar.few);
-        places = same_places_on sofar.places places;
-      }
+    -- before a lexeme that finds no place
+    pub halted_at_full : (l : Lexeme) → f.what ≡ Ok l → room p ≡ 0 → Outcome r q (Err (stop_full (record {}))) (waiting p) (offset_of s)
+    halted_at_full l is none =
+        let xs = good l ∷ items (text_of r) f.after.offset in
+        let begins : l.offset ≡ offset_of s = subst (Begins (offset_of s)) is found.begins in
+        subst (Outcome r q (Err (stop_full (record {}))) (waiting p)) begins
+        (halted xs (Some (stop_full (record {}))) _ (good_first l is) (ap (λ n. reading (length (text_of r)) n xs) none))
+
+    -- one lexeme more, up to where the next item may stand
+    pub one_more : (p' : Queue Lexeme) → Put f.what p p' → (s' : Reader) → text_of s' ≡ text_of s → offset_of s' ≡ f.after.offset → Sofar r q s' p' (count + 1)
+    one_more p' put s' text there =
+        let l = put.lexeme in
+        record {
+          ls = sofar.ls ++ l ∷ [];
+          text = text ∙ sofar.text;
+          list = put.list ∙ ap (λ x. x ++ l ∷ []) sofar.list ∙ append_assoc (waiting q) sofar.ls (l ∷ []);
+          counted = omega (arith, length_push sofar.ls l, sofar.counted);
+          free = omega (arith, length_push sofar.ls l, sofar.free, put.free);
+          told = sofar.told ∙ ap (λ x. map good sofar.ls ++ x) (good_first l put.is ∙ ap (λ j. good l ∷ items (text_of r) j) (sym there)) ∙ sym (append_assoc (map good sofar.ls) (good l ∷ []) _)
+              ∙ ap (λ x. x ++ items (text_of r) (offset_of s')) (sym (map_push good sofar.ls l));
+          few = omega (arith, sofar.few, found.some, found.past);
+          places = same_places_on sofar.places put.places;
+        }

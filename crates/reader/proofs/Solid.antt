@@ -8,6 +8,7 @@ use Rattle.reader.specs.Places.{byte}
 use Rattle.reader.specs.Runs.{fraction, front, front_by, fronts, number_length, point_and}
 use Rattle.reader.specs.declared.class.Class.{Class}
 use Rattle.reader.specs.declared.class.Class.TheVariants.{Blank, LineEnd, Letter, Digit, Apostrophe, Point, Sign, Unreadable}
+use Rattle.reader.proofs.Fronts.{fronts_pass}
 
 -- the byte at an offset is no blank and no line end
 abbrev pub Black : List ℕ → ℕ → Type 0
@@ -32,16 +33,6 @@ digit_black Apostrophe e = refl
 digit_black Point e = refl
 digit_black (Sign k) e = refl
 digit_black Unreadable e = refl
-
--- the bytes that pass a test at the front do pass it
-pub fronts_pass : (p : Class → Bool) (bs : List ℕ) (j : ℕ) → j < fronts p bs → p (class (byte bs j)) ≡ true
-fronts_pass p [] j h = absurd (omega arith)
-fronts_pass p (b ∷ bs) j h = go (p (class b)) refl (fronts_pass p bs) j h
-  where
-    go : (v : Bool) → p (class b) ≡ v → ((k : ℕ) → k < fronts p bs → p (class (byte bs k)) ≡ true) → (k : ℕ) → k < cond v (suc (fronts p bs)) 0 → p (class (byte (b ∷ bs) k)) ≡ true
-    go true e rest zero l = e
-    go true e rest (suc k) l = rest k (omega arith)
-    go false e rest k l = absurd (omega arith)
 
 digits_black : (bs : List ℕ) (j : ℕ) → j < fronts in_digits bs → Black bs j
 digits_black bs j h = digit_black _ (fronts_pass in_digits bs j h)

@@ -1,12 +1,12 @@
 -- One step of the reader: what a byte leaves of the items, and where it leads. Assumes nothing.
-use Rattle.std.proofs.Common.{◌≡◌, ℕ, zero, suc, ◌+◌, ◌-◌, ◌<◌, ◌≤◌, Bool, true, false, eqb, List, [], ◌∷◌, ◌++◌, length, drop, sym, refl, ap, ◌∙◌, subst, add-zero, add-suc, suc-add, add-one, arith}
+use Rattle.std.proofs.Common.{◌≡◌, ℕ, zero, suc, ◌+◌, ◌-◌, ◌<◌, ◌≤◌, Bool, true, false, cond, eqb, Some, List, [], ◌∷◌, ◌++◌, length, drop, sym, refl, ap, ◌∙◌, subst, add-zero, add-suc, suc-add, add-one, arith}
 use Rattle.std.proofs.lemmas.List.{drop_more, drop-drop}
 use Rattle.std.proofs.lemmas.Bool.{false≢true, and_right, or_right, cond-true, cond-false}
 use Rattle.std.proofs.lemmas.Bool.Decides.{nat_tests}
 use Rattle.reader.specs.Classes.{class, is_gap, blank, line_end}
 use Rattle.reader.specs.Cursors.{Placed, Passed}
 use Rattle.reader.specs.Items.{here, extent, items, items_from}
-use Rattle.reader.specs.Places.{byte, crlf, line_end_length, short_line_end_length, next_column}
+use Rattle.reader.specs.Places.{byte, crlf, line_end_length, next_column}
 use Rattle.reader.specs.Runs.{Front, front, front_by, gap}
 use Rattle.reader.specs.declared.cursor.Cursor.{Cursor}
 use Rattle.reader.proofs.Places.{carriage_return, first_byte, line_end_inside, placed_blank, placed_line, placed_crlf}
@@ -47,12 +47,6 @@ items_front t i f h is some =
 -- a blank or a line end is no item
 pub items_gap : (t : List ℕ) (i : ℕ) → i < length t → is_gap (class (byte t i)) ≡ true → items t i ≡ items t (i + 1)
 items_gap t i h e = items_at t i h ∙ ap (λ f. here t i f ++ items_from t (extent f - 1) (suc i) (drop (i + 1) t)) (gap_front _ _ e) ∙ ap (λ j. items_from t 0 j (drop (i + 1) t)) (sym (add-one i))
-
--- past the end stands no line end
-pub no_line_end : (bs : List ℕ) → length bs < 1 → 0 ≡ short_line_end_length bs
-unfolding class
-no_line_end [] h = refl
-no_line_end (b ∷ bs) h = absurd (omega arith)
 
 -- 13 10 does not stand at the front of less than two bytes
 pub short_not_crlf : (bs : List ℕ) → length bs < 2 → crlf bs ≡ false
@@ -119,19 +113,15 @@ module _ (t : List ℕ) (c : Cursor) (placed : Placed t c) where
       )
 
   -- a line end is passed, be it one byte or two
-  pub line_end_passed : (n : ℕ) → n ≡ line_end_length (drop c.offset t) → (n ≡ 0 → ⊥) → LinePassed n
-  line_end_passed n is some = by_bytes (crlf (drop c.offset t)) refl
+  pub line_end_passed : class (byte t c.offset) ≡ LineEnd → (n : ℕ) → Some n ≡ line_end_length (drop c.offset t) → LinePassed n
+  line_end_passed is n long = by_bytes (crlf (drop c.offset t)) refl
     where
-      by_end : crlf (drop c.offset t) ≡ false → (b : Bool) → line_end (class (byte t c.offset)) ≡ b → LinePassed n
-      by_end e true f =
-          subst LinePassed (sym (is ∙ cond-false _ _ _ e ∙ cond-true _ _ _ (ap (λ b. line_end (class b)) (first_byte t c.offset) ∙ f))) (one_passed e f)
-      by_end e false f =
-          absurd (some (is ∙ cond-false _ _ _ e ∙ cond-false _ _ _ (ap (λ b. line_end (class b)) (first_byte t c.offset) ∙ f)))
+      ends : line_end (class (byte t c.offset)) ≡ true
+      ends = ap line_end is
+
+      length_is : n ≡ cond (crlf (drop c.offset t)) 2 1
+      length_is = let some : Some n ≡ Some (cond (crlf (drop c.offset t)) 2 1) = long ∙ cond-true _ _ _ (ap (λ b. line_end (class b)) (first_byte t c.offset) ∙ ends) in cc
 
       by_bytes : (b : Bool) → crlf (drop c.offset t) ≡ b → LinePassed n
-      by_bytes true e = subst LinePassed (sym (is ∙ cond-true _ _ _ e)) (two_passed e)
-      by_bytes false e = by_end e (line_end (class (byte t c.offset))) refl
-
--- where no line end stands, the byte is none
-pub no_line_end_here : (t : List ℕ) (i : ℕ) → 0 ≡ line_end_length (drop i t) → line_end (class (byte t i)) ≡ false
-no_line_end_here t i e = ap (λ b. line_end (class b)) (sym (first_byte t i)) ∙ grind (arith, nat_tests)
+      by_bytes true e = subst LinePassed (sym (length_is ∙ cond-true _ _ _ e)) (two_passed e)
+      by_bytes false e = subst LinePassed (sym (length_is ∙ cond-false _ _ _ e)) (one_passed e ends)

@@ -1,16 +1,7 @@
 -- What the code that finds runs answers. Assumes nothing.
-use Rattle.std.specs.Prelude.{ℕ, Bool, Some, None, Option}
-use Rattle.reader.specs.Classes.{in_name, in_digits}
+use Rattle.std.specs.Prelude.{ℕ, Some, None, Option}
 use Rattle.reader.specs.Runs.{Front, stray, run}
-use Rattle.reader.specs.declared.class.Class.{Class}
-use Rattle.reader.specs.declared.run.Part.{Part}
-use Rattle.reader.specs.declared.run.Part.TheVariants.{Name, Digits}
 use Rattle.reader.specs.declared.run.Run.{Run}
-
--- the classes that a part takes
-abbrev pub takes : Part → Class → Bool
-takes Name = in_name
-takes Digits = in_digits
 
 -- what stands at the front where no blank or line end does: a run, or a byte that begins none
 abbrev pub front_of : Option Run → Front

@@ -1,5 +1,5 @@
 -- Lines and columns of a text, both counted from 1. Assumes nothing.
-use Rattle.std.specs.Prelude.{ℕ, zero, suc, ◌+◌, ◌-◌, ◌%◌, Bool, true, cond, not, ◌&&◌, ◌||◌, List, drop, ◌==◌, slice_index}
+use Rattle.std.specs.Prelude.{ℕ, zero, suc, ◌+◌, ◌-◌, ◌%◌, Bool, true, cond, not, ◌&&◌, ◌||◌, List, drop, ◌==◌, Some, None, Option, slice_index}
 use Rattle.reader.specs.Classes.{class, blank, line_end}
 
 -- the byte at an offset
@@ -14,13 +14,9 @@ next_column b c = cond (b == 9) (c + 8 - (c - 1) % 8) (c + 1)
 abbrev pub crlf : List ℕ → Bool
 crlf bs = byte bs 0 == 13 && byte bs 1 == 10
 
--- how many bytes a line end of one byte at the front has
-abbrev pub short_line_end_length : List ℕ → ℕ
-short_line_end_length bs = cond (line_end (class (byte bs 0))) 1 0
-
--- how many bytes the line end at the front has: 13 10 is one line end, and 0 says that there is none
-abbrev pub line_end_length : List ℕ → ℕ
-line_end_length bs = cond (crlf bs) 2 (short_line_end_length bs)
+-- how many bytes the line end at the front has, if one stands there: 13 10 is one line end
+abbrev pub line_end_length : List ℕ → Option ℕ
+line_end_length bs = cond (line_end (class (byte bs 0))) (Some (cond (crlf bs) 2 1)) None
 
 -- a line ends with the byte at an offset: of 13 10 with the 10
 abbrev pub ends_line : List ℕ → ℕ → Bool

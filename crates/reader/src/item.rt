@@ -1,11 +1,9 @@
-// The next lexeme or fault of a text.
-ghost use Rattle.std.specs.Prelude.{◌≡◌, ◌<◌, MatchOption};
-ghost use Rattle.reader.specs.Cursors.{NoGap, Placed, Short};
-ghost use Rattle.reader.specs.Found.{Ends, Finds};
+// A lexeme or a fault of a text.
+ghost use Rattle.std.specs.Prelude.{◌≡◌, ◌<◌};
 ghost use Rattle.reader.specs.Items.{fault_at, judged};
 
 use crate::cursor::Cursor;
-use crate::run::{Run, front_run};
+use crate::run::Run;
 use sheet::{Fault, Lexeme, Reason};
 
 // A name or a number has at most so many bytes.
@@ -22,7 +20,7 @@ pub struct Found {
 }
 
 // A fault at a place of the text, which has no layout context.
-fn fault(at: Cursor, reason: Reason) -> Fault
+pub fn fault(at: Cursor, reason: Reason) -> Fault
     ensures { result ≡ fault_at at reason }
 {
     Fault {
@@ -34,7 +32,7 @@ fn fault(at: Cursor, reason: Reason) -> Fault
 }
 
 // A run as a lexeme, unless it is too long or begins too far to the right.
-fn judge(at: Cursor, run: Run) -> Result<Lexeme, Fault>
+pub fn judge(at: Cursor, run: Run) -> Result<Lexeme, Fault>
     requires { (at.offset < 65536) × (run.length < 65536) }
     ensures { result ≡ judged at run.kind run.length }
 {
@@ -52,27 +50,4 @@ fn judge(at: Cursor, run: Run) -> Result<Lexeme, Fault>
         offset: at.offset as u32,
         length: run.length as u32,
     })
-}
-
-// The lexeme or the fault that stands at a cursor, where no blank and no line end does; none at the end of the text.
-pub fn find(text: &[u8], at: Cursor) -> Option<Found>
-    requires short { Short text.now }
-    requires placed { Placed text.now at }
-    requires no_gap { NoGap text.now at.offset }
-    ensures { MatchOption result (Ends text.now at.offset) (Finds text.now at.offset) }
-{
-    let from = at.offset;
-    if from == text.len() {
-        return None;
-    }
-    match front_run(&text[from..]) {
-        Some(run) => Some(Found {
-            what: judge(at, run),
-            after: at.after_run(run.length),
-        }),
-        None => Some(Found {
-            what: Err(fault(at, Reason::UnreadableByte)),
-            after: at.after_run(1),
-        }),
-    }
 }

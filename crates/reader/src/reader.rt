@@ -6,6 +6,7 @@ ghost use Rattle.reader.specs.Items.{spot};
 use crate::cursor::Cursor;
 
 pub mod calls;
+mod scan;
 
 // A text and where reading goes on in it.
 #[derive(Drop)]

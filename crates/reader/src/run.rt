@@ -1,43 +1,38 @@
 // Runs of bytes: how far a name or a number reaches, and which names are keywords.
-ghost use Rattle.std.specs.Prelude.{◌≡◌, ◌<◌, ◌≤◌, false, length};
+ghost use Rattle.std.specs.Prelude.{◌≡◌, ◌<◌, ◌≤◌, Bool, false, length};
 ghost use Rattle.reader.specs.Runs.{fraction, front, fronts, number_length, word_kind};
-ghost use Rattle.std.specs.Str.{bytes_eq};
-ghost use Rattle.reader.specs.Classes.{class, is_gap};
-ghost use Rattle.reader.specs.Parts.{front_of, run_length, takes};
+ghost use Rattle.reader.specs.Classes.{class, in_digits, in_name, is_gap};
+ghost use Rattle.reader.specs.declared.class.Class.{Class};
+ghost use Rattle.reader.specs.Parts.{front_of, run_length};
 ghost use Rattle.reader.specs.Places.{byte};
 
 use crate::class::{Class, class_of};
 use sheet::Kind;
 
-// What a run goes on with.
-#[derive(Clone, Copy)]
-pub enum Part {
-    Name,
-    Digits,
+// What a name goes on with.
+fn in_name(class: Class) -> bool
+    ensures { result ≡ in_name class }
+{
+    matches!(class, Class::Letter | Class::Digit | Class::Apostrophe)
 }
 
-impl Part {
-    fn takes(self, class: Class) -> bool
-        ensures { result ≡ takes self class }
-    {
-        match self {
-            Part::Name => matches!(class, Class::Letter | Class::Digit | Class::Apostrophe),
-            Part::Digits => matches!(class, Class::Digit),
-        }
-    }
+// What digits go on with.
+fn in_digits(class: Class) -> bool
+    ensures { result ≡ in_digits class }
+{
+    matches!(class, Class::Digit)
 }
 
-// How many bytes at the front the part takes.
-pub fn front_length(bytes: &[u8], part: Part) -> usize
-    ensures value { result ≡ fronts (takes part) bytes.now }
+// How many bytes at the front are of the classes that a test passes.
+fn front_length<F: Fn(Class) -> bool>(bytes: &[u8], passes: F) -> usize
+    requires { F.IsAlwaysCallable passes }
+    ensures value { (p : Class → Bool) → ((c : Class) (r : Bool) → F.post passes c r → r ≡ p c) → result ≡ fronts p bytes.now }
     ensures within { result ≤ length bytes.now }
 {
-    for (n, byte) in bytes.iter().enumerate() {
-        if !part.takes(class_of(*byte)) {
-            return n;
-        }
-    }
-    bytes.len()
+    bytes
+        .iter()
+        .take_while(|byte| passes(class_of(**byte)))
+        .count()
 }
 
 // How many bytes at the front are a point and digits. A point belongs to a number only if a digit follows.
@@ -48,44 +43,32 @@ fn fraction_length(bytes: &[u8]) -> usize
     let [b'.', rest @ ..] = bytes else {
         return 0;
     };
-    match front_length(rest, Part::Digits) {
+    match front_length(rest, in_digits) {
         0 => 0,
         digits => 1 + digits,
     }
 }
 
 // How many bytes at the front are a number.
-pub fn number_length(bytes: &[u8]) -> usize
+fn number_length(bytes: &[u8]) -> usize
     ensures value { result ≡ number_length bytes.now }
     ensures within { result ≤ length bytes.now }
 {
-    let whole = front_length(bytes, Part::Digits);
+    let whole = front_length(bytes, in_digits);
     whole + fraction_length(&bytes[whole..])
 }
 
-// Whether a name is a keyword.
-fn is(word: &[u8], keyword: &[u8]) -> bool
-    ensures { result ≡ bytes_eq word.now keyword.now }
-{
-    word == keyword
-}
-
 // The kind of a name: five names are keywords.
-pub fn word_kind(word: &[u8]) -> Kind
+fn word_kind(word: &[u8]) -> Kind
     ensures { result ≡ word_kind word.now }
 {
-    if is(word, b"let") {
-        Kind::Let
-    } else if is(word, b"in") {
-        Kind::In
-    } else if is(word, b"where") {
-        Kind::Where
-    } else if is(word, b"of") {
-        Kind::Of
-    } else if is(word, b"do") {
-        Kind::Do
-    } else {
-        Kind::Name
+    match word {
+        b"let" => Kind::Let,
+        b"in" => Kind::In,
+        b"where" => Kind::Where,
+        b"of" => Kind::Of,
+        b"do" => Kind::Do,
+        _ => Kind::Name,
     }
 }
 
@@ -103,22 +86,17 @@ pub fn front_run(bytes: &[u8]) -> Option<Run>
     ensures value { front bytes.now ≡ front_of result }
     ensures within { run_length result ≤ length bytes.now }
 {
-    // One test after another and no `match`, of which clang makes a jump table: that costs more, and is hard to foresee
-    // for the processor.
-    let class = class_of(bytes[0]);
-    if let Class::Letter = class {
-        let length = front_length(bytes, Part::Name);
-        let kind = word_kind(&bytes[0..length]);
-        Some(Run { kind, length })
-    } else if let Class::Sign(kind) = class {
-        Some(Run { kind, length: 1 })
-    } else if let Class::Digit = class {
-        let length = number_length(bytes);
-        Some(Run {
+    match class_of(bytes[0]) {
+        Class::Letter => {
+            let length = front_length(bytes, in_name);
+            let kind = word_kind(&bytes[..length]);
+            Some(Run { kind, length })
+        }
+        Class::Sign(kind) => Some(Run { kind, length: 1 }),
+        Class::Digit => Some(Run {
             kind: Kind::Number,
-            length,
-        })
-    } else {
-        None
+            length: number_length(bytes),
+        }),
+        _ => None,
     }
 }

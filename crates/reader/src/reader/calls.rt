@@ -7,7 +7,6 @@ ghost use Rattle.reader.specs.Reading.{answer, offset_of, reads, text_of};
 
 use super::Reader;
 use crate::cursor::Cursor;
-use crate::item::find;
 use crate::stop::{Stop, TooLong};
 use queue::Queue;
 use sheet::{Lexeme, Place};
@@ -65,18 +64,15 @@ impl<'a> Reader<'a> {
     {
         let mut count = 0;
         loop {
-            self.here = self.here.after_gaps(self.text);
-            let Some(found) = find(self.text, self.here) else {
+            self.pass_gaps();
+            let Some(found) = self.find() else {
                 return Ok(count);
             };
-            match found.what {
-                Ok(lexeme) => queue.put(lexeme)?,
-                Err(fault) => {
-                    self.here = found.after;
-                    return Err(Stop::Fault(fault));
-                }
+            if let Ok(lexeme) = found.what {
+                queue.put(lexeme)?;
             }
             self.here = found.after;
+            found.what?;
             count += 1;
         }
     }

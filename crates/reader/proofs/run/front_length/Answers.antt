@@ -1,23 +1,14 @@
-use Rattle.std.proofs.Common.{sym, ap, ◌∙◌, arith}
-use Rattle.reader.specs.Parts.{takes}
-use Rattle.reader.proofs.Fronts.{fronts_more, fronts_stop, fronts_end}
+use Rattle.std.proofs.Common.{sym, ◌∙◌, rules, tests, of_calls}
+use Rattle.std.proofs.lemmas.Iterator.{YieldsList-from_slice}
+use Rattle.std.proofs.lemmas.Iterator.Consumers.{YieldsList-at, count_from_yields_List}
+use Rattle.std.proofs.lemmas.Iterator.Search.{YieldsList-from_take_while}
+use Rattle.std.proofs.lemmas.List.Folds.{length-prefix_len}
+use Rattle.reader.specs.Classes.{class}
+use Rattle.reader.proofs.Fronts.{fronts_is}
 use Rattle.reader.proofs.run.front_length.Goals as goal
 
-pub returns-then-not-takes : goal.returns-then-not-takes
-returns-then-not-takes c =
-    let p = takes c.args.part in
-    let fails = ap p (sym c.class_of.ensures) ∙ sym c.takes.ensures ∙ c.if-not-takes.true in
-    let stop = fronts_stop p _ _ c.loop-n-test.true fails in
-    record { value = omega arith; within = omega arith }
-
-pub loop-n-preserved : goal.loop-n-preserved
-loop-n-preserved c =
-    let p = takes c.args.part in
-    let passes = ap p (sym c.class_of.ensures) ∙ sym c.takes.ensures ∙ c.if-not-takes.false in
-    omega (arith, c.loop-n.invariant, fronts_more p _ _ c.loop-n-test.true passes)
-
-pub returns : goal.returns
-returns c =
-    let p = takes c.args.part in
-    let end = fronts_end p _ _ c.loop-n-test.false in
-    record { value = omega (arith, c.loop-n.invariant); within = omega arith }
+pub returns-clause-value : goal.returns-clause-value
+returns-clause-value g c = λ p h.
+    count_from_yields_List c.take_while.result _ c.count.ensures.ran
+    (YieldsList-from_take_while _ (λ b. p (class b)) (YieldsList-at c.take_while.ensures.source (YieldsList-from_slice c.args.bytes.now c.iter.ensures.rest)) c.take_while.ensures.closure c.take_while.ensures.done (λ x b q k. search (rules, tests, of_calls, h)))
+    ∙ length-prefix_len (λ b. p (class b)) c.args.bytes.now ∙ sym (fronts_is p c.args.bytes.now)

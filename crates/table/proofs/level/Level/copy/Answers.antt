@@ -1,4 +1,4 @@
-use Rattle.std.proofs.Common.{◌≡◌, ◌++◌, length, ap, ◌∙◌, arith}
+use Rattle.std.proofs.Common.{◌++◌, length, ap, ◌∙◌, arith}
 use Rattle.table.proofs.Levels.{done_so, ends_same}
 use Rattle.table.proofs.level.Level.copy.Goals as goal
 

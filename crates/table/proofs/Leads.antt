@@ -1,9 +1,10 @@
 -- The rule of the steps, proved at all of them by one test that antt computes from the table and the productions, and
 -- carried to each.
 -- Assumes nothing.
-use Rattle.std.proofs.Common.{◌≡◌, ℕ, zero, suc, ◌+◌, ◌<◌, ◌≤◌, Bool, true, false, ◌&&◌, eqb, ltb, leb, List, [], ◌∷◌, ◌++◌, length, reverse, sym, refl, subst, ap₂, append_assoc, arith}
+use Rattle.std.proofs.Common.{◌≡◌, ℕ, zero, suc, ◌+◌, ◌<◌, ◌≤◌, Bool, true, false, ◌&&◌, eqb, ltb, leb, bytes_eq, List, [], ◌∷◌, ◌++◌, length, reverse, sym, refl, subst, append_assoc, arith}
 use mathlib.Core.Bool.{false≢true}
 use Rattle.std.proofs.lemmas.List.{length-reverse}
+use Rattle.std.proofs.lemmas.Slice.Eq.{bytes_eq-Decides}
 use Rattle.std.proofs.lemmas.Bool.{and_parts, eqb-true, eqb-false, ltb-true, ltb-false, leb-true}
 use Rattle.grammar.specs.Grammar.{IsKind, nth}
 use Rattle.grammar.specs.Sheet.{sheet}
@@ -14,21 +15,6 @@ use Rattle.table.specs.Steps.{left_of, step_at}
 use Rattle.table.specs.Comes.{Leaves}
 use Rattle.table.proofs.Rule.{cell, at_cell, entry_at}
 use Rattle.table.proofs.Expand.{entry_zero, entry_expands, ends_expand, ends_pop, ends_known, kind_other, kind_met}
-
--- the two lists have the same numbers
-abbrev alike : List ℕ → List ℕ → Bool
-alike [] [] = true
-alike [] (b ∷ y) = false
-alike (a ∷ x) [] = false
-alike (a ∷ x) (b ∷ y) = eqb a b && alike x y
-
-alike_true : (x y : List ℕ) → alike x y ≡ true → x ≡ y
-alike_true [] [] e = refl
-alike_true [] (b ∷ y) e = absurd (false≢true e)
-alike_true (a ∷ x) [] e = absurd (false≢true e)
-alike_true (a ∷ x) (b ∷ y) e =
-    let parts = and_parts (eqb a b) (alike x y) e in
-    ap₂ ◌∷◌ (eqb-true a b parts.0) (alike_true x y parts.1)
 
 -- what the step of a number means: as t comes next, the symbols before the rest are rejected, vanish, or are met
 abbrev pub MakesBy : ℕ → List ℕ → List ℕ → ℕ → Type 0
@@ -56,7 +42,7 @@ vanishes (suc (suc n)) = false
 abbrev leaves : List ℕ → ℕ → Bool
 leaves x zero = false
 leaves x (suc zero) = false
-leaves x (suc (suc n)) = leb (length (left_of n)) 4 && alike x (left_of n)
+leaves x (suc (suc n)) = leb (length (left_of n)) 4 && bytes_eq x (left_of n)
 
 -- by whether a kind stands first, whether it is the kind that comes, and whether the entry is 0
 abbrev at_top : Bool → Bool → Bool → List ℕ → ℕ → (Unit {0} → Bool) → Bool
@@ -84,9 +70,9 @@ makes_met : (a t : ℕ) (x rest : List ℕ) (s : ℕ) → ltb a 16 ≡ true → 
 makes_met a t x rest zero low same ends e = absurd (false≢true e)
 makes_met a t x rest (suc zero) low same ends e = absurd (false≢true e)
 makes_met a t x rest (suc (suc n)) low same ends e =
-    let parts = and_parts (leb (length (left_of n)) 4) (alike x (left_of n)) e in
+    let parts = and_parts (leb (length (left_of n)) 4) (bytes_eq x (left_of n)) e in
     let met = kind_met a (x ++ rest) t (ltb-true a 16 low) (eqb-true a t same) in
-    subst (λ y. (length (left_of n) ≤ 4) × Follows t (a ∷ (x ++ rest)) (y ++ rest) × Ends (y ++ rest)) (alike_true x (left_of n) parts.1)
+    subst (λ y. (length (left_of n) ≤ 4) × Follows t (a ∷ (x ++ rest)) (y ++ rest) × Ends (y ++ rest)) ((bytes_eq-Decides x (left_of n)).0 parts.1)
     (leb-true (length (left_of n)) 4 parts.0, met, ends_pop a (x ++ rest) ends)
 
 makes_never : (t : ℕ) (x rest : List ℕ) (s : ℕ) → Never t (x ++ rest) → rejects s ≡ true → MakesBy t x rest s

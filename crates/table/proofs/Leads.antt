@@ -1,39 +1,20 @@
 -- The rule of the steps, proved at all of them by one test that antt computes from the table and the productions, and
 -- carried to each.
 -- Assumes nothing.
-use Rattle.std.proofs.Common.{◌≡◌, ℕ, zero, suc, ◌+◌, ◌-◌, ◌<◌, ◌≤◌, Bool, true, false, ◌&&◌, eqb, ltb, leb, List, [], ◌∷◌, ◌++◌, length, reverse, get_or, slice_index, slice_index_or, sym, refl, subst, ap₂, append_assoc, arith}
+use Rattle.std.proofs.Common.{◌≡◌, ℕ, zero, suc, ◌+◌, ◌<◌, ◌≤◌, Bool, true, false, ◌&&◌, eqb, ltb, leb, bytes_eq, List, [], ◌∷◌, ◌++◌, length, reverse, sym, refl, subst, append_assoc, arith}
 use mathlib.Core.Bool.{false≢true}
 use Rattle.std.proofs.lemmas.List.{length-reverse}
+use Rattle.std.proofs.lemmas.Slice.Eq.{bytes_eq-Decides}
 use Rattle.std.proofs.lemmas.Bool.{and_parts, eqb-true, eqb-false, ltb-true, ltb-false, leb-true}
 use Rattle.grammar.specs.Grammar.{IsKind, nth}
 use Rattle.grammar.specs.Sheet.{sheet}
-use Rattle.grammar.proofs.Tests.{below, at_below}
-use Rattle.table.specs.Cells.{cells}
+use Rattle.grammar.proofs.Tests.{below}
 use Rattle.table.specs.Entry.{Entry}
 use Rattle.table.specs.Stack.{Ends, SameFor, Follows, Never}
-use Rattle.table.specs.Steps.{step_rows, left_of, step_at}
+use Rattle.table.specs.Steps.{left_of, step_at}
 use Rattle.table.specs.Comes.{Leaves}
-use Rattle.table.proofs.Rule.{entry_at}
+use Rattle.table.proofs.Rule.{cell, at_cell, entry_at}
 use Rattle.table.proofs.Expand.{entry_zero, entry_expands, ends_expand, ends_pop, ends_known, kind_other, kind_met}
-
--- the table's entry
-abbrev cell : ℕ → ℕ → ℕ
-cell a t = get_or (get_or cells (a - 16) []) (t - 1) 0
-
--- the two lists have the same numbers
-abbrev alike : List ℕ → List ℕ → Bool
-alike [] [] = true
-alike [] (b ∷ y) = false
-alike (a ∷ x) [] = false
-alike (a ∷ x) (b ∷ y) = eqb a b && alike x y
-
-alike_true : (x y : List ℕ) → alike x y ≡ true → x ≡ y
-alike_true [] [] e = refl
-alike_true [] (b ∷ y) e = absurd (false≢true e)
-alike_true (a ∷ x) [] e = absurd (false≢true e)
-alike_true (a ∷ x) (b ∷ y) e =
-    let parts = and_parts (eqb a b) (alike x y) e in
-    ap₂ ◌∷◌ (eqb-true a b parts.0) (alike_true x y parts.1)
 
 -- what the step of a number means: as t comes next, the symbols before the rest are rejected, vanish, or are met
 abbrev pub MakesBy : ℕ → List ℕ → List ℕ → ℕ → Type 0
@@ -61,7 +42,7 @@ vanishes (suc (suc n)) = false
 abbrev leaves : List ℕ → ℕ → Bool
 leaves x zero = false
 leaves x (suc zero) = false
-leaves x (suc (suc n)) = leb (length (left_of n)) 4 && alike x (left_of n)
+leaves x (suc (suc n)) = leb (length (left_of n)) 4 && bytes_eq x (left_of n)
 
 -- by whether a kind stands first, whether it is the kind that comes, and whether the entry is 0
 abbrev at_top : Bool → Bool → Bool → List ℕ → ℕ → (Unit {0} → Bool) → Bool
@@ -89,9 +70,9 @@ makes_met : (a t : ℕ) (x rest : List ℕ) (s : ℕ) → ltb a 16 ≡ true → 
 makes_met a t x rest zero low same ends e = absurd (false≢true e)
 makes_met a t x rest (suc zero) low same ends e = absurd (false≢true e)
 makes_met a t x rest (suc (suc n)) low same ends e =
-    let parts = and_parts (leb (length (left_of n)) 4) (alike x (left_of n)) e in
+    let parts = and_parts (leb (length (left_of n)) 4) (bytes_eq x (left_of n)) e in
     let met = kind_met a (x ++ rest) t (ltb-true a 16 low) (eqb-true a t same) in
-    subst (λ y. (length (left_of n) ≤ 4) × Follows t (a ∷ (x ++ rest)) (y ++ rest) × Ends (y ++ rest)) (alike_true x (left_of n) parts.1)
+    subst (λ y. (length (left_of n) ≤ 4) × Follows t (a ∷ (x ++ rest)) (y ++ rest) × Ends (y ++ rest)) ((bytes_eq-Decides x (left_of n)).0 parts.1)
     (leb-true (length (left_of n)) 4 parts.0, met, ends_pop a (x ++ rest) ends)
 
 makes_never : (t : ℕ) (x rest : List ℕ) (s : ℕ) → Never t (x ++ rest) → rejects s ≡ true → MakesBy t x rest s
@@ -135,11 +116,7 @@ leads_makes (suc n) t (a ∷ x) rest s k ends e =
 -- the rule at each step
 pub step_at_lem : (a t : ℕ) → 16 ≤ a → a ≤ 25 → IsKind t → ComesBy a t (step_at a t)
 step_at_lem a t low high k rest ends =
-    let i : a - 16 + 16 ≡ a = omega arith in
-    let j : t - 1 + 1 ≡ t = omega arith in
-    let row = at_below (λ i. below (λ j. leads 4 (j + 1) ((i + 16) ∷ []) (step_at (i + 16) (j + 1))) 15) 10 (a - 16) all_lead (omega arith) in
-    let one = at_below (λ j. leads 4 (j + 1) ((a - 16 + 16) ∷ []) (step_at (a - 16 + 16) (j + 1))) 15 (t - 1) row (omega arith) in
-    leads_makes 4 t (a ∷ []) rest (step_at a t) k ends (subst (λ y. leads 4 y (a ∷ []) (step_at a y) ≡ true) j (subst (λ x. leads 4 (t - 1 + 1) (x ∷ []) (step_at x (t - 1 + 1)) ≡ true) i one))
+    leads_makes 4 t (a ∷ []) rest (step_at a t) k ends (at_cell (λ a t. leads 4 t (a ∷ []) (step_at a t)) all_lead a t low high k)
 
 -- symbols that are kept the last first are what is left by their number
 pub left_kept : (a t n : ℕ) (ys rest : List ℕ) → reverse ys ≡ left_of n → Ends (a ∷ rest) → ComesBy a t (suc (suc n)) → Leaves t (a ∷ []) rest ys
@@ -148,10 +125,9 @@ left_kept a t n ys rest is ends comes =
     let h = subst (λ x. (length x ≤ 4) × Follows t (a ∷ rest) (x ++ rest) × Ends (x ++ rest)) (sym is) (comes rest ends) in
     (omega (arith, h.0), h.1, h.2)
 
-all_few : below (λ i. below (λ j. ltb (slice_index (slice_index_or step_rows i []) j) 16) 16) 10 ≡ true
+all_few : below (λ i. below (λ j. ltb (step_at (i + 16) (j + 1)) 16) 15) 10 ≡ true
 all_few = refl
 
 -- a step's number is below 16
-pub number_few : (row column : ℕ) → row < 10 → column < 16 → slice_index (slice_index_or step_rows row []) column < 16
-number_few row column low within =
-    ltb-true _ 16 (at_below (λ j. ltb (slice_index (slice_index_or step_rows row []) j) 16) 16 column (at_below (λ i. below (λ j. ltb (slice_index (slice_index_or step_rows i []) j) 16) 16) 10 row all_few low) within)
+pub step_few : (a t : ℕ) → 16 ≤ a → a ≤ 25 → IsKind t → step_at a t < 16
+step_few a t low high k = ltb-true (step_at a t) 16 (at_cell (λ a t. ltb (step_at a t) 16) all_few a t low high k)

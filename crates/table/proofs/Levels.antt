@@ -19,27 +19,27 @@ use Rattle.table.specs.declared.walk.Met.{Met}
 use Rattle.table.specs.Level.{remains, means}
 use Rattle.table.proofs.Expand.{ends_start, ends_known}
 
-pub ends_same : (x y : List ℕ) → y ≡ x → Ends (reverse x) → Ends (reverse y)
-ends_same x y e ends = subst (λ l. Ends (reverse l)) (sym e) ends
+pub ends_same : {x y : List ℕ} → y ≡ x → Ends (reverse x) → Ends (reverse y)
+ends_same e ends = subst (λ l. Ends (reverse l)) (sym e) ends
 
 -- the start symbol alone ends one
-pub ends_fresh : (items : List ℕ) → items ≡ start ∷ [] → Ends (reverse items)
-ends_fresh items e = ends_same (start ∷ []) items e ends_start
+pub ends_fresh : {items : List ℕ} → items ≡ start ∷ [] → Ends (reverse items)
+ends_fresh e = ends_same e ends_start
 
 -- a stack that ends a derived list derives some list of kinds
 some_kinds : (x : List ℕ) → Ends x → (w : List ℕ) × Derives sheet x w × Kinds w
 some_kinds x ends = kinds_derived x (ends_known x ends)
 
 -- a kind that is met is viable
-pub met_viable : (kind : ℕ) (stack : List ℕ) (below : ℕ) (left : List ℕ) → Found kind stack below left → Begins (remains (reverse stack)) kind
-met_viable kind stack below left m =
+pub met_viable : {kind : ℕ} {stack : List ℕ} {below : ℕ} {left : List ℕ} → Found kind stack below left → Begins (remains (reverse stack)) kind
+met_viable {kind} {stack} {below} {left} m =
     let some = some_kinds (reverse (take below stack ++ left)) m.ends in
     (some.0, ((m.follows some.0).1 some.1, (m.is_kind, some.2)))
 
 -- and one that is not is not
 pub viable_so : (kind : ℕ) (stack : List ℕ) (met : Option Met) → MatchOption met (IsKind kind → Never kind (reverse stack)) (λ m. Found kind stack m.below m.left.now) → Decides (is_some met) (Begins (remains (reverse stack)) kind)
 viable_so kind stack None never = (λ e. absurd (false≢true e), λ b. absurd (never b.1.1.0 b.0 b.1.0))
-viable_so kind stack (Some m) found = (λ _. met_viable kind stack m.below m.left.now found, λ _. refl)
+viable_so kind stack (Some m) found = (λ _. met_viable found, λ _. refl)
 
 -- the stack derives the empty list where each of its symbols does
 pub empties_so : (stack : List ℕ) → Decides (list_all (λ s. among s nullables) stack) (remains (reverse stack) [])
@@ -58,8 +58,8 @@ empties_so (s ∷ stack) =
     )
 
 -- a kind that is met is taken
-pub took : (kind n : ℕ) (stack now : List ℕ) (below : ℕ) (left : List ℕ) → Found kind stack below left → now ≡ take below stack ++ left → Alike (means (reverse now) (n - 1) absent) (taken kind (means (reverse stack) n absent))
-took kind n stack now below left m is =
+pub took : {kind : ℕ} (n : ℕ) {stack now : List ℕ} {below : ℕ} {left : List ℕ} → Found kind stack below left → now ≡ take below stack ++ left → Alike (means (reverse now) (n - 1) absent) (taken kind (means (reverse stack) n absent))
+took {kind} n {stack} {now} m is =
     let follows : Follows kind (reverse stack) (reverse now) = subst (λ l. Follows kind (reverse stack) (reverse l)) (sym is) m.follows in
     record {
       language = same_refl _;

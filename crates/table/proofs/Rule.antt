@@ -19,7 +19,20 @@ abbrev right : ℕ → ℕ → ℕ → Bool
 right a t e =
     each (λ n p. implies (fits a t p) (eqb n e)) 0 sheet && implies (not (eqb e 0)) ((leb 1 e && leb e 20) && fits a t (nth sheet e))
 
-all_right : below (λ i. below (λ j. right (i + 16) (j + 1) (get_or (get_or cells i []) j 0)) 15) 10 ≡ true
+-- the table's entry
+abbrev pub cell : ℕ → ℕ → ℕ
+cell a t = get_or (get_or cells (a - 16) []) (t - 1) 0
+
+-- a test that passes at every nonterminal and kind passes at each
+pub at_cell : (test : ℕ → ℕ → Bool) → below (λ i. below (λ j. test (i + 16) (j + 1)) 15) 10 ≡ true → (a t : ℕ) → 16 ≤ a → a ≤ 25 → IsKind t → test a t ≡ true
+at_cell test all a t low high k =
+    let i : a - 16 + 16 ≡ a = omega arith in
+    let j : t - 1 + 1 ≡ t = omega arith in
+    let row = at_below (λ i. below (λ j. test (i + 16) (j + 1)) 15) 10 (a - 16) all (omega arith) in
+    let one = at_below (λ j. test (a - 16 + 16) (j + 1)) 15 (t - 1) row (omega arith) in
+    subst (λ y. test a y ≡ true) j (subst (λ x. test x (t - 1 + 1) ≡ true) i one)
+
+all_right : below (λ i. below (λ j. right (i + 16) (j + 1) (cell (i + 16) (j + 1))) 15) 10 ≡ true
 unfolding null begin follow
 all_right = refl
 
@@ -58,14 +71,9 @@ entry_right a t e k h =
     }
 
 -- the rule at each entry
-pub entry_at : (a t : ℕ) → 16 ≤ a → a ≤ 25 → 1 ≤ t → t ≤ 15 → Entry a t (get_or (get_or cells (a - 16) []) (t - 1) 0)
+pub entry_at : (a t : ℕ) → 16 ≤ a → a ≤ 25 → 1 ≤ t → t ≤ 15 → Entry a t (cell a t)
 entry_at a t al ah tl th =
-    let i : a - 16 + 16 ≡ a = omega arith in
-    let j : t - 1 + 1 ≡ t = omega arith in
-    let e = get_or (get_or cells (a - 16) []) (t - 1) 0 in
-    let row = at_below (λ i. below (λ j. right (i + 16) (j + 1) (get_or (get_or cells i []) j 0)) 15) 10 (a - 16) all_right (omega arith) in
-    let cell = at_below (λ j. right (a - 16 + 16) (j + 1) (get_or (get_or cells (a - 16) []) j 0)) 15 (t - 1) row (omega arith) in
-    entry_right a t e (tl, th) (subst (λ y. right a y e ≡ true) j (subst (λ x. right x (t - 1 + 1) e ≡ true) i cell))
+    entry_right a t (cell a t) (tl, th) (at_cell (λ a t. right a t (cell a t)) all_right a t al ah (tl, th))
 
 -- no production is for what is no kind, or for a symbol that none has on its left
 predicts_kind : (a t n : ℕ) → Predicts a t n → IsKind t

@@ -1,6 +1,6 @@
 -- What a walk keeps.
 -- Assumes nothing.
-use Rattle.std.proofs.Common.{◌≡◌, ℕ, ◌≤◌, List, [], ◌∷◌, ◌++◌, length, take, reverse, sym, ap, ◌∙◌, subst, append_assoc, append-nil, length-append, arith}
+use Rattle.std.proofs.Common.{◌≡◌, ℕ, ◌≤◌, List, [], ◌∷◌, ◌++◌, length, take, reverse, sym, ap, ◌∙◌, subst, append_assoc, length-append, arith}
 use Rattle.std.proofs.lemmas.List.{reverse-append}
 use Rattle.std.proofs.Math.Seq.{take-append_seam}
 use Rattle.grammar.specs.Grammar.{IsKind}
@@ -8,7 +8,7 @@ use Rattle.table.specs.declared.steps.Step.TheVariants.{Rejected, Vanishes}
 use Rattle.table.specs.Stack.{Ends, SameFor, Follows, Never}
 use Rattle.table.specs.Comes.{Leaves, Comes}
 use Rattle.table.specs.Walk.{Found}
-use Rattle.table.proofs.Expand.{ends_pop, ends_known, empty_never}
+use Rattle.table.proofs.Expand.{ends_pop, ends_known}
 
 -- what was passed vanished: the same may follow that the kind begins
 pub record Walking (kind : ℕ) (stack rest : List ℕ) : Type 0 where
@@ -17,7 +17,7 @@ pub record Walking (kind : ℕ) (stack rest : List ℕ) : Type 0 where
   pub same : SameFor kind (reverse stack) (reverse rest)
   pub ends : Ends (reverse rest)
 
-module _ (kind : ℕ) (stack rest below : List ℕ) (s : ℕ) (w : Walking kind stack rest) (top : rest ≡ below ++ s ∷ []) where
+module _ {kind : ℕ} {stack rest : List ℕ} (below : List ℕ) (s : ℕ) (w : Walking kind stack rest) (top : rest ≡ below ++ s ∷ []) where
   from_top : reverse rest ≡ s ∷ reverse below
   from_top = ap reverse top ∙ reverse-append below (s ∷ [])
 
@@ -63,13 +63,3 @@ module _ (kind : ℕ) (stack rest below : List ℕ) (s : ℕ) (w : Walking kind 
         few = h.0;
         deeper = omega (arith, length-append below (s ∷ w.passed));
       }
-
--- nothing was passed at first
-pub walk_begins : (kind : ℕ) (stack : List ℕ) → Ends (reverse stack) → Walking kind stack stack
-walk_begins kind stack ends =
-    record { passed = []; whole = sym (append-nil stack); same = λ w. (λ d. d, λ d. d); ends = ends }
-
--- the stack is at its end
-pub walk_out : (kind : ℕ) (stack rest : List ℕ) → length rest ≡ 0 → Walking kind stack rest → Never kind (reverse stack)
-walk_out kind stack [] none w v d = empty_never kind v ((w.same v).0 d)
-walk_out kind stack (s ∷ rest) none w v d = absurd (omega arith)

@@ -56,8 +56,7 @@ static LEFT: [&[u8]; 14] = [
 // What stands in a row and a column, counted from 0.
 fn number(row: usize, column: usize) -> u8
     requires { (row < 10) × (column < 16) }
-    ensures is { result ≡ slice_index (slice_index_or step_rows row []) column }
-    ensures few { result < 16 }
+    ensures { result ≡ slice_index (slice_index_or step_rows row []) column }
 {
     STEPS[row][column]
 }

@@ -1,4 +1,4 @@
-use Rattle.std.proofs.Common.{◌≡◌, ◌++◌, length, ap, ◌∙◌, arith}
+use Rattle.std.proofs.Common.{◌++◌, length, ap, ◌∙◌, arith}
 use Rattle.table.proofs.Levels.{done_so, ends_same}
 use Rattle.table.proofs.level.Level.copy.Goals as goal
 
@@ -10,4 +10,4 @@ invariant_of-self c =
     let whole = ap length c.deref.ensures.0 in
     let same = done_so _ (c.try_extend_from_slice.ensures.variant.1 (omega arith)) c.try_extend_from_slice.ensures.ok ∙ ap (λ l. l ++ c.deref.result.now) c.clear.ensures ∙ c.deref.ensures.0 in
     let long = ap length same in
-    record { room = omega arith; ends = ends_same _ _ same other.ends }
+    record { room = omega arith; ends = ends_same same other.ends }

@@ -6,4 +6,4 @@ pub invariant_of-result : goal.invariant_of-result
 invariant_of-result c =
     let alone = c.push.ensures.items ∙ ap (λ l. l ++ 16 ∷ []) c.new-symbols.ensures in
     let one = ap length alone in
-    record { room = omega arith; ends = ends_fresh _ alone }
+    record { room = omega arith; ends = ends_fresh alone }

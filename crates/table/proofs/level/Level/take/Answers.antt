@@ -13,7 +13,7 @@ pub returns-then-self-eq0 : goal.returns-then-self-eq0
 returns-then-self-eq0 c =
     let self = c.args.self.now in
     let found = rw c.deref.ensures.0 at c.in-Some.ensures in
-    (met_viable _ _ _ _ found, c.if-self-eq0.true, alike_refl (means (reverse self.symbols.items) self.left absent))
+    (met_viable found, c.if-self-eq0.true, alike_refl (means (reverse self.symbols.items) self.left absent))
 
 pub lay-requires : goal.lay-requires
 lay-requires c =
@@ -32,11 +32,11 @@ invariant_of-self c =
     let room = c.args.self.now.room in
     let some = c.if-self-eq0.false in
     let long = ap length c.lay.ensures in
-    record { room = omega (arith, length-append (take c.in-Some.met.below c.args.self.now.symbols.items) c.in-Some.met.left.now, length-take c.in-Some.met.below c.args.self.now.symbols.items); ends = ends_same _ _ c.lay.ensures found.ends }
+    record { room = omega (arith, length-append (take c.in-Some.met.below c.args.self.now.symbols.items) c.in-Some.met.left.now, length-take c.in-Some.met.below c.args.self.now.symbols.items); ends = ends_same c.lay.ensures found.ends }
 
 pub returns : goal.returns
 returns c =
     let self = c.args.self.now in
     let found = rw c.deref.ensures.0 at c.in-Some.ensures in
     let some = c.if-self-eq0.false in
-    (met_viable _ _ _ _ found, omega arith, took c.args.kind self.left self.symbols.items _ _ _ found c.lay.ensures)
+    (met_viable found, omega arith, took self.left found c.lay.ensures)

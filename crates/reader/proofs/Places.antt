@@ -5,7 +5,6 @@ use Rattle.std.proofs.lemmas.Bool.{false≢true, cond-true, cond-false, cond_bot
 use Rattle.reader.specs.Classes.{class, blank, is_gap, line_end}
 use Rattle.reader.specs.Cursors.{Placed}
 use Rattle.reader.specs.Places.{byte, crlf, ends_line, next_column, line_at, column_at, first_at}
-use Rattle.reader.specs.declared.class.Class.TheVariants.{Blank}
 use Rattle.reader.specs.declared.cursor.Cursor.{Cursor}
 
 -- a byte leads at least one column on, and at most eight
@@ -122,15 +121,6 @@ unfolding class
 ten_ends = refl
 
 module _ (t : List ℕ) (c : Cursor) (placed : Placed t c) where
-  -- after a blank
-  pub placed_blank : c.offset < length t → class (byte t c.offset) ≡ Blank → (d : Cursor) → d ≡ record { offset = c.offset + 1; line = c.line; column = next_column (byte t c.offset) c.column; first = c.first } → Placed t d
-  placed_blank inside is d e =
-      let on = ap line_end is in
-      at_offset t (suc c.offset) d (ap (λ (x : Cursor). x.offset) e ∙ add-one c.offset) inside
-      (ap (λ (x : Cursor). x.line) e ∙ placed.line ∙ sym (line_inside t c.offset on))
-      (ap (λ (x : Cursor). x.column) e ∙ ap (next_column (byte t c.offset)) placed.column ∙ sym (column_inside t c.offset on))
-      (ap (λ (x : Cursor). x.first) e ∙ placed.first ∙ simp is)
-
   -- after a run
   pub placed_run : (n : ℕ) → 0 < n → c.offset + n ≤ length t → Solid t c.offset n → (d : Cursor) → d ≡ record { offset = c.offset + n; line = c.line; column = c.column + n; first = false } → Placed t d
   placed_run n some within solid d e =

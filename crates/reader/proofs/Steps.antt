@@ -1,15 +1,14 @@
 -- One step of the reader: what a byte leaves of the items, and where it leads. Assumes nothing.
-use Rattle.std.proofs.Common.{◌≡◌, ℕ, zero, suc, ◌+◌, ◌-◌, ◌<◌, ◌≤◌, Bool, true, false, cond, eqb, Some, List, [], ◌∷◌, ◌++◌, length, drop, sym, refl, ap, ◌∙◌, subst, add-zero, add-suc, suc-add, add-one, arith}
+use Rattle.std.proofs.Common.{◌≡◌, ℕ, zero, suc, ◌+◌, ◌-◌, ◌<◌, ◌≤◌, Bool, true, false, cond, Some, List, [], ◌∷◌, ◌++◌, length, drop, sym, refl, ap, ◌∙◌, subst, add-zero, add-suc, suc-add, add-one, arith}
 use Rattle.std.proofs.lemmas.List.{drop_more, drop-drop}
-use Rattle.std.proofs.lemmas.Bool.{false≢true, and_right, or_right, cond-true, cond-false}
-use Rattle.std.proofs.lemmas.Bool.Decides.{nat_tests}
+use Rattle.std.proofs.lemmas.Bool.{false≢true, or_right, cond-true, cond-false}
 use Rattle.reader.specs.Classes.{class, is_gap, blank, line_end}
-use Rattle.reader.specs.Cursors.{Placed, Passed}
+use Rattle.reader.specs.Cursors.{Placed}
 use Rattle.reader.specs.Items.{here, extent, items, items_from}
-use Rattle.reader.specs.Places.{byte, crlf, line_end_length, next_column}
+use Rattle.reader.specs.Places.{byte, crlf, line_end_length}
 use Rattle.reader.specs.Runs.{Front, front, front_by, gap}
 use Rattle.reader.specs.declared.cursor.Cursor.{Cursor}
-use Rattle.reader.proofs.Places.{carriage_return, first_byte, line_end_inside, placed_blank, placed_line, placed_crlf}
+use Rattle.reader.proofs.Places.{carriage_return, first_byte, line_end_inside, placed_line, placed_crlf}
 use Rattle.reader.specs.declared.class.Class.{Class}
 use Rattle.reader.specs.declared.class.Class.TheVariants.{Blank, LineEnd, Letter, Digit, Apostrophe, Point, Sign, Unreadable}
 
@@ -48,15 +47,6 @@ items_front t i f h is some =
 pub items_gap : (t : List ℕ) (i : ℕ) → i < length t → is_gap (class (byte t i)) ≡ true → items t i ≡ items t (i + 1)
 items_gap t i h e = items_at t i h ∙ ap (λ f. here t i f ++ items_from t (extent f - 1) (suc i) (drop (i + 1) t)) (gap_front _ _ e) ∙ ap (λ j. items_from t 0 j (drop (i + 1) t)) (sym (add-one i))
 
--- 13 10 does not stand at the front of less than two bytes
-pub short_not_crlf : (bs : List ℕ) → length bs < 2 → crlf bs ≡ false
-short_not_crlf [] h = refl
-short_not_crlf (b ∷ []) h = and_right (eqb b 13) false refl
-short_not_crlf (b ∷ d ∷ bs) h = absurd (omega arith)
-
-pub other_not_crlf : (bs : List ℕ) → (byte bs 0 ≡ 13 → byte bs 1 ≡ 10 → ⊥) → crlf bs ≡ false
-other_not_crlf bs h = grind (arith, nat_tests)
-
 thirteen_gap : is_gap (class 13) ≡ true
 unfolding class
 thirteen_gap = refl
@@ -65,17 +55,13 @@ ten_gap : is_gap (class 10) ≡ true
 unfolding class
 ten_gap = refl
 
-module _ (t : List ℕ) (c : Cursor) (placed : Placed t c) where
-  -- a blank is passed
-  pub blank_passed : c.offset < length t → class (byte t c.offset) ≡ Blank → (d : Cursor) → d ≡ record { offset = c.offset + 1; line = c.line; column = next_column (byte t c.offset) c.column; first = c.first } → Passed t c.offset d
-  blank_passed inside is d e =
-      let on = ap (λ (x : Cursor). x.offset) e in
-      record {
-        placed = placed_blank t c placed inside is d e;
-        further = omega arith;
-        same = items_gap t c.offset inside (ap is_gap is) ∙ ap (items t) (sym on);
-      }
+-- a cursor stands past an offset, with nothing but blanks and line ends between
+pub record Passed (t : List ℕ) (i : ℕ) (c : Cursor) : Type 0 where
+  pub placed : Placed t c
+  pub further : i < c.offset
+  pub same : items t i ≡ items t c.offset
 
+module _ (t : List ℕ) (c : Cursor) (placed : Placed t c) where
   -- a line end of n bytes is passed
   abbrev pub LinePassed : ℕ → Type 0
   LinePassed n = (c.offset + n ≤ length t) × ((d : Cursor) → d ≡ record { offset = c.offset + n; line = c.line + 1; column = 1; first = true } → Passed t c.offset d)

@@ -1,7 +1,6 @@
 -- Where the reader stands in a text. Assumes nothing.
 use Rattle.std.specs.Prelude.{◌≡◌, ℕ, ◌<◌, ◌≤◌, false, List, length}
 use Rattle.reader.specs.Classes.{class, is_gap}
-use Rattle.reader.specs.Items.{items}
 use Rattle.reader.specs.Places.{byte, line_at, column_at, first_at}
 use Rattle.reader.specs.declared.cursor.Cursor.{Cursor}
 
@@ -12,16 +11,6 @@ pub record Placed (t : List ℕ) (c : Cursor) : Type 0 where
   pub column : c.column ≡ column_at t c.offset
   pub first : c.first ≡ first_at t c.offset
 
--- a text that the reader takes
-abbrev pub Short : List ℕ → Type 0
-Short t = length t ≤ 65535
-
 -- neither a blank nor a line end stands at an offset
 abbrev pub NoGap : List ℕ → ℕ → Type 0
 NoGap t i = i < length t → is_gap (class (byte t i)) ≡ false
-
--- a cursor stands past an offset, with nothing but blanks and line ends between
-pub record Passed (t : List ℕ) (i : ℕ) (c : Cursor) : Type 0 where
-  pub placed : Placed t c
-  pub further : i < c.offset
-  pub same : items t i ≡ items t c.offset

@@ -1,5 +1,5 @@
 -- What a text tells, fed on a resolver. Assumes nothing.
-use Rattle.std.proofs.Common.{◌≡◌, ℕ, ◌≤◌, List, [], ◌∷◌, ◌++◌, map, length, take, Ok, Err, Result, sym, refl, ap, ◌∙◌, subst, arith, length-append}
+use Rattle.std.proofs.Common.{◌≡◌, ℕ, List, [], ◌∷◌, ◌++◌, map, Ok, Result, sym, refl, ap, ◌∙◌, subst, arith, length-append}
 use Rattle.std.proofs.lemmas.List.{append_assoc, append-nil, map-append}
 use Rattle.parser.specs.Meaning.{Meaning}
 use Rattle.parser.specs.Sets.{Lists}
@@ -15,9 +15,9 @@ use Rattle.layout.specs.declared.call.Answer.TheVariants.{Count as count, Refuse
 use Rattle.layout.specs.declared.call.Call.TheVariants.{Feed as feed}
 use Rattle.layout.proofs.Sheets.{took_none}
 use Rattle.whole.specs.Feeding.{Fed, Keeps, SameParser, Within}
-use Rattle.whole.specs.Whole.{Feeding, fault_of, fed, most_faults, none, places, unread}
+use Rattle.whole.specs.Keeping.{Keeping}
+use Rattle.whole.specs.Whole.{Feeding, fault_of, fed, none, places}
 use Rattle.whole.proofs.Behind.{behind, feeding_behind, feeding_on}
-use Rattle.whole.proofs.Notes.{few_noted, noted_none, noted_on}
 
 -- a lexeme that is fed leaves the sheet open
 pub fed_sheet : {G : Lists} {reach : ℕ} {s : State} {t : ℕ} {l : Lexeme} {free : ℕ} {a : Answer} {us : List Token} {s' : State} → Does G reach s (feed t l free) a us s' → s'.sheet ≡ s.sheet
@@ -68,85 +68,62 @@ fed_on {m} {n} {o} {s} {s'} {s''} {t} {xs} {ys} {ts} {us} {fs} {gs} x y =
       parser = took_on x.parser y.parser;
     }
 
-pub keeps_none : (m : Meaning) (s : State) (t : ℕ) (ts : List Token) (fs : List Fault) → length fs ≤ most_faults → Keeps (over m (anew s)) t [] ts ts fs fs (over m (anew s))
-keeps_none m s t ts fs few = record { tokens = []; faults = []; fed = fed_none m s t; kept = sym (append-nil ts); noted = noted_none most_faults fs few }
+module _ {K : Type 0} {kept : K → List Token → List Fault → K → Type 0} (laws : Keeping kept) where
+  pub keeps_none : (m : Meaning) (s : State) (t : ℕ) (a : K) → Keeps kept (over m (anew s)) t [] a a (over m (anew s))
+  keeps_none m s t a = record { tokens = []; faults = []; fed = fed_none m s t; keeper = laws.none a }
 
-pub keeps_on : {m n o : Meaning} {s s' s'' : State} {t : ℕ} {xs ys : List (Result Lexeme Fault)} {ts ts' ts'' : List Token} {fs fs' fs'' : List Fault} → Keeps (over m s) t xs ts ts' fs fs' (over n s') → Keeps (over n s') t ys ts' ts'' fs' fs'' (over o s'') → Keeps (over m s) t (xs ++ ys) ts ts'' fs fs'' (over o s'')
-keeps_on {ts = ts} {fs = fs} {fs' = fs'} {fs'' = fs''} x y =
-    record {
-      tokens = x.tokens ++ y.tokens;
-      faults = x.faults ++ y.faults;
-      fed = fed_on x.fed y.fed;
-      kept = y.kept ∙ ap (λ l. l ++ y.tokens) x.kept ∙ append_assoc ts x.tokens y.tokens;
-      noted = noted_on most_faults fs fs' fs'' x.faults y.faults x.noted y.noted;
-    }
-
--- a fault of the reader
-pub keeps_unread : (m : Meaning) (s : State) (t : ℕ) (f : Fault) (ts : List Token) (fs fs' : List Fault) → fs' ≡ take most_faults (fs ++ f ∷ []) → Keeps (over m (anew s)) t (Err f ∷ []) ts ts fs fs' (over m (anew s))
-keeps_unread m s t f ts fs fs' e =
-    record { tokens = []; faults = f ∷ []; fed = record { left = anew s; feeding = unread none; state = refl; parser = took_none m }; kept = sym (append-nil ts); noted = e }
+  pub keeps_on : {m n o : Meaning} {s s' s'' : State} {t : ℕ} {xs ys : List (Result Lexeme Fault)} {a b c : K} → Keeps kept (over m s) t xs a b (over n s') → Keeps kept (over n s') t ys b c (over o s'') → Keeps kept (over m s) t (xs ++ ys) a c (over o s'')
+  keeps_on {a = a} {b = b} {c = c} x y =
+      record {
+        tokens = x.tokens ++ y.tokens;
+        faults = x.faults ++ y.faults;
+        fed = fed_on x.fed y.fed;
+        keeper = laws.on a b c x.tokens y.tokens x.faults y.faults x.keeper y.keeper;
+      }
 
 -- one lexeme
 module _ (m n : Meaning) (s s' : State) (t : ℕ) (l : Lexeme) (free : ℕ) (enough : free ≡ places) (q q' : List Token) (empty : q ≡ []) where
   pub one_within : (a : Answer) → Writes (over m s) (feed t l free) a q q' (over n s') → Within (over m s) (over n s')
   one_within a x = let c = x.calls in record { parser = record { language = c.parser.language; reach = c.parser.reach }; sheet = ap (λ (z : State). z.sheet) c.state ∙ fed_sheet c.does }
 
-  one_fed : (a : Answer) (us : List Token) → Calls (over m s) (feed t l free) a us (over n s') → Fed (over m s) t (Ok l ∷ []) (us ++ []) (fault_of a ++ []) (over n s')
+  one_fed : (a : Answer) (us : List Token) → Calls (over m s) (feed t l free) a us (over n s') → Fed (over m s) t (Ok l ∷ []) us (fault_of a ++ []) (over n s')
   one_fed a us c =
-      record {
-        left = c.left;
-        feeding = fed (subst (λ k. Does m.remainder m.left s (feed t l k) a us c.left) enough c.does) none;
-        state = c.state;
-        parser = c.parser;
-      }
+      subst (λ (vs : List Token). Fed (over m s) t (Ok l ∷ []) vs (fault_of a ++ []) (over n s')) (append-nil us)
+      (record { left = c.left; feeding = fed (subst (λ k. Does m.remainder m.left s (feed t l k) a us c.left) enough c.does) none; state = c.state; parser = c.parser })
 
-  pub one_accepted : (k : ℕ) (ts ts' : List Token) (fs : List Fault) → Writes (over m s) (feed t l free) (count k) q q' (over n s') → ts' ≡ ts ++ q' → length fs ≤ most_faults → Keeps (over m s) t (Ok l ∷ []) ts ts' fs fs (over n s')
-  one_accepted k ts ts' fs x e few =
-      record {
-        tokens = x.tokens ++ [];
-        faults = [];
-        fed = one_fed (count k) x.tokens x.calls;
-        kept = e ∙ ap (λ l. ts ++ l) (x.list ∙ ap (λ l. l ++ x.tokens) empty ∙ sym (append-nil x.tokens));
-        noted = noted_none most_faults fs few;
-      }
+  module _ {K : Type 0} (kept : K → List Token → List Fault → K → Type 0) (a b : K) where
+    pub one_accepted : (k : ℕ) → Writes (over m s) (feed t l free) (count k) q q' (over n s') → kept a q' [] b → Keeps kept (over m s) t (Ok l ∷ []) a b (over n s')
+    one_accepted k x e =
+        record { tokens = x.tokens; faults = []; fed = one_fed (count k) x.tokens x.calls; keeper = subst (λ us. kept a us [] b) (x.list ∙ ap (λ us. us ++ x.tokens) empty) e }
 
-  pub one_refused : (f : Fault) (ts : List Token) (fs fs' : List Fault) → Writes (over m s) (feed t l free) (refused f) q q' (over n s') → fs' ≡ take most_faults (fs ++ f ∷ []) → Keeps (over m s) t (Ok l ∷ []) ts ts fs fs' (over n s')
-  one_refused f ts fs fs' x e =
-      record {
-        tokens = x.tokens ++ [];
-        faults = f ∷ [];
-        fed = one_fed (refused f) x.tokens x.calls;
-        kept = sym (append-nil ts) ∙ ap (λ l. ts ++ (l ++ [])) (sym (fed_nothing x.calls.does));
-        noted = e;
-      }
-
-  -- which leaves the queue as it was
-  pub refused_empty : (f : Fault) → Writes (over m s) (feed t l free) (refused f) q q' (over n s') → q' ≡ []
-  refused_empty f x = x.list ∙ ap (λ l. l ++ x.tokens) empty ∙ fed_nothing x.calls.does
+    pub one_refused : (f : Fault) → Writes (over m s) (feed t l free) (refused f) q q' (over n s') → kept a [] (f ∷ []) b → Keeps kept (over m s) t (Ok l ∷ []) a b (over n s')
+    one_refused f x e =
+        record {
+          tokens = [];
+          faults = f ∷ [];
+          fed = subst (λ (vs : List Token). Fed (over m s) t (Ok l ∷ []) vs (f ∷ []) (over n s')) (fed_nothing x.calls.does) (one_fed (refused f) x.tokens x.calls);
+          keeper = e;
+        }
 
 -- lexemes that wait are fed one by one: some were, and the others still wait
-pub record Sofar (m : Meaning) (s : State) (t : ℕ) (all : List Lexeme) (ts ts' : List Token) (fs fs' : List Fault) (n : Meaning) (s' : State) (rest : List Lexeme) : Type 0 where
+pub record Sofar {K : Type 0} (kept : K → List Token → List Fault → K → Type 0) (m : Meaning) (s : State) (t : ℕ) (all : List Lexeme) (a b : K) (n : Meaning) (s' : State) (rest : List Lexeme) : Type 0 where
   pub seen : List Lexeme
   pub whole : all ≡ seen ++ rest
   pub within : Within (over m s) (over n s')
-  pub keeps : Keeps (over m s) t (map Ok seen) ts ts' fs fs' (over n s')
+  pub keeps : Keeps kept (over m s) t (map Ok seen) a b (over n s')
 
-pub sofar_none : (m : Meaning) (s : State) (t : ℕ) (all : List Lexeme) (ts : List Token) (fs : List Fault) → length fs ≤ most_faults → Sofar m (anew s) t all ts ts fs fs m (anew s) all
-sofar_none m s t all ts fs few = record { seen = []; whole = refl; within = within_none m (anew s); keeps = keeps_none m s t ts fs few }
+module _ {K : Type 0} {kept : K → List Token → List Fault → K → Type 0} (laws : Keeping kept) where
+  pub sofar_none : (m : Meaning) (s : State) (t : ℕ) (all : List Lexeme) (a : K) → Sofar kept m (anew s) t all a a m (anew s) all
+  sofar_none m s t all a = record { seen = []; whole = refl; within = within_none m (anew s); keeps = keeps_none laws m s t a }
 
-pub sofar_more : {m n o : Meaning} {s s' s'' : State} {t : ℕ} {all rest rest' : List Lexeme} {ts ts' ts'' : List Token} {fs fs' fs'' : List Fault} (l : Lexeme) → Sofar m s t all ts ts' fs fs' n s' rest → rest ≡ l ∷ rest' → Within (over n s') (over o s'') → Keeps (over n s') t (Ok l ∷ []) ts' ts'' fs' fs'' (over o s'')
-    → Sofar m s t all ts ts'' fs fs'' o s'' rest'
-sofar_more {m} {n} {o} {s} {s'} {s''} {t} {all} {rest} {rest'} {ts} {ts'} {ts''} {fs} {fs'} {fs''} l x e w k =
-    record {
-      seen = x.seen ++ l ∷ [];
-      whole = x.whole ∙ ap (λ y. x.seen ++ y) e ∙ sym (append_assoc x.seen (l ∷ []) rest');
-      within = within_on x.within w;
-      keeps = subst (λ (ys : List (Result Lexeme Fault)). Keeps (over m s) t ys ts ts'' fs fs'' (over o s'')) (sym (map-append Ok x.seen (l ∷ []))) (keeps_on x.keeps k);
-    }
+  pub sofar_more : {m n o : Meaning} {s s' s'' : State} {t : ℕ} {all rest rest' : List Lexeme} {a b c : K} (l : Lexeme) → Sofar kept m s t all a b n s' rest → rest ≡ l ∷ rest' → Within (over n s') (over o s'') → Keeps kept (over n s') t (Ok l ∷ []) b c (over o s'') → Sofar kept m s t all a c o s'' rest'
+  sofar_more {m} {n} {o} {s} {s'} {s''} {t} {all} {rest} {rest'} {a} {b} {c} l x e w k =
+      record {
+        seen = x.seen ++ l ∷ [];
+        whole = x.whole ∙ ap (λ y. x.seen ++ y) e ∙ sym (append_assoc x.seen (l ∷ []) rest');
+        within = within_on x.within w;
+        keeps = subst (λ (ys : List (Result Lexeme Fault)). Keeps kept (over m s) t ys a c (over o s'')) (sym (map-append Ok x.seen (l ∷ []))) (keeps_on laws x.keeps k);
+      }
 
-pub sofar_all : {m n : Meaning} {s s' : State} {t : ℕ} {all rest : List Lexeme} {ts ts' : List Token} {fs fs' : List Fault} → Sofar m s t all ts ts' fs fs' n s' rest → rest ≡ [] → Keeps (over m s) t (map Ok all) ts ts' fs fs' (over n s')
-sofar_all {m} {n} {s} {s'} {t} {all} {rest} {ts} {ts'} {fs} {fs'} x e =
-    subst (λ (ls : List Lexeme). Keeps (over m s) t (map Ok ls) ts ts' fs fs' (over n s')) (sym (x.whole ∙ ap (λ y. x.seen ++ y) e ∙ append-nil x.seen)) x.keeps
-
-pub keeps_few : {m n : Meaning} {s s' : State} {t : ℕ} {xs : List (Result Lexeme Fault)} {ts ts' : List Token} {fs fs' : List Fault} → Keeps (over m s) t xs ts ts' fs fs' (over n s') → length fs' ≤ most_faults
-keeps_few {fs = fs} {fs' = fs'} x = few_noted most_faults (fs ++ x.faults) fs' x.noted
+  pub sofar_all : {m n : Meaning} {s s' : State} {t : ℕ} {all rest : List Lexeme} {a b : K} → Sofar kept m s t all a b n s' rest → rest ≡ [] → Keeps kept (over m s) t (map Ok all) a b (over n s')
+  sofar_all {m} {n} {s} {s'} {t} {all} {rest} {a} {b} x e = subst (λ (ls : List Lexeme). Keeps kept (over m s) t (map Ok ls) a b (over n s')) (sym (x.whole ∙ ap (λ y. x.seen ++ y) e ∙ append-nil x.seen)) x.keeps

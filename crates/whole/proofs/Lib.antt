@@ -1,5 +1,5 @@
-pub mod Notes
 pub mod Behind
+pub mod Gains
 pub mod Feeds
 pub mod Reading
 pub mod Endings

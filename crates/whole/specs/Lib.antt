@@ -1,3 +1,5 @@
-pub mod Feeding
 pub mod Whole
+pub mod Keeping
+pub mod Kept
+pub mod Feeding
 pub mod Listing

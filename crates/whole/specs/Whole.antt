@@ -1,5 +1,6 @@
 -- A whole sheet: which calls of the service are made for a text, and what comes of them. Assumes nothing.
-use Rattle.std.specs.Prelude.{◌≡◌, ℕ, List, [], ◌∷◌, ◌++◌, map, length, take, Ok, Err, vec_items, Result}
+use Rattle.std.specs.Prelude.{◌≡◌, ℕ, cond, List, [], ◌∷◌, ◌++◌, map, length, take, Ok, Err, vec_items, Result, nat_le, Vec}
+use Rattle.std.specs.declared.alloc.Global.{Global}
 use Rattle.parser.specs.Sets.{Lists}
 use Rattle.sheet.specs.declared.fault.Fault.{Fault}
 use Rattle.sheet.specs.declared.lexeme.Lexeme.{Lexeme}
@@ -13,8 +14,6 @@ use Rattle.layout.specs.Service.{Does, State}
 use Rattle.layout.specs.declared.call.Answer.{Answer}
 use Rattle.layout.specs.declared.call.Answer.TheVariants.{Ticket as ticket, Count as count, Closed as closed, Refused as refused}
 use Rattle.layout.specs.declared.call.Call.TheVariants.{Begin as begin, Feed as feed, Finish as finish, GiveUp as give_up}
-use Rattle.whole.specs.declared.outcome.Outcome.{Outcome}
-use Rattle.whole.specs.declared.outcome.Outcome.TheVariants.{Tokens, Faults}
 
 -- what a text tells: its lexemes and the faults of the reader, in their order
 abbrev pub told : List ℕ → List (Result Lexeme Fault)
@@ -31,6 +30,21 @@ places = 128
 -- so many faults are kept
 abbrev pub most_faults : ℕ
 most_faults = 256
+
+-- a text too long is read as empty
+abbrev pub readable : List ℕ → List ℕ
+readable t = cond (nat_le (length t) 65535) t []
+
+-- all tokens of a sheet: those that feed wrote, with those of a finish that was accepted
+abbrev pub all_tokens : List Token → Result (List Token) (List Fault) → List Token
+all_tokens ts (Ok us) = us
+all_tokens ts (Err gs) = ts
+
+-- all its faults: those of the reader and of feed, else that of a begin or of a finish that was refused
+abbrev pub all_faults : List Fault → Result (List Token) (List Fault) → List Fault
+all_faults [] (Ok us) = []
+all_faults [] (Err gs) = gs
+all_faults (f ∷ fs) o = f ∷ fs
 
 -- the fault of an answer that refuses
 abbrev pub fault_of : Answer → List Fault
@@ -61,10 +75,20 @@ module _ (G : Lists) (reach : ℕ) where
     not_begun : {s' : State} {f : Fault} → Does G reach s begin (refused f) [] s' → Whole s xs p (Err (f ∷ [])) s'
     begun : {s₁ s₂ s₃ : State} {t : ℕ} {ts : List Token} {fs : List Fault} {r : Result (List Token) (List Fault)} → Does G reach s begin (ticket t) [] s₁ → Feeding t s₁ xs ts fs s₂ → Ends s₂ t p ts fs r s₃ → Whole s xs p r s₃
 
+  -- the same, with all its tokens and all its faults
+  pub data Yields (s : State) (xs : List (Result Lexeme Fault)) (p : Place) : List Token → List Fault → Result (List Token) (List Fault) → State → Type 0 where
+    not_begun : {s' : State} {f : Fault} → Does G reach s begin (refused f) [] s' → Yields s xs p [] (f ∷ []) (Err (f ∷ [])) s'
+    begun : {s₁ s₂ s₃ : State} {t : ℕ} {ts : List Token} {fs : List Fault} {r : Result (List Token) (List Fault)} → Does G reach s begin (ticket t) [] s₁ → Feeding t s₁ xs ts fs s₂ → Ends s₂ t p ts fs r s₃ → Yields s xs p (all_tokens ts r) (all_faults fs r) r s₃
+
 -- an outcome as lists
-abbrev pub outcome : Outcome → Result (List Token) (List Fault)
-outcome (Tokens ts) = Ok (vec_items ts)
-outcome (Faults fs) = Err (vec_items fs)
+abbrev pub outcome : Result (Vec Token Global) (Vec Fault Global) → Result (List Token) (List Fault)
+outcome (Ok ts) = Ok (vec_items ts)
+outcome (Err fs) = Err (vec_items fs)
+
+-- what comes of a sheet that had these tokens and these faults
+abbrev pub verdict : List Token → List Fault → Result (List Token) (List Fault)
+verdict ts [] = Ok ts
+verdict ts (f ∷ fs) = Err (f ∷ fs)
 
 -- the law of a sheet that comes to tokens: all of the text could be read, the layout rules turn its lexemes into exactly these tokens, and they are a sentence
 pub record Sound (G : Lists) (text : List ℕ) (ts : List Token) : Type 0 where

@@ -96,11 +96,11 @@ pub fn listing(heap: Global, text: &[u8], found: &Outcome) -> Result<Vec<u8>, Al
 {
     let mut bytes = Vec::new(heap);
     match found {
-        Outcome::Tokens(tokens) => {
+        Ok(tokens) => {
             add_tokens(&mut bytes, text, tokens)?;
             bytes.push(b'\n')?;
         }
-        Outcome::Faults(faults) => add_faults(heap, &mut bytes, faults)?,
+        Err(faults) => add_faults(heap, &mut bytes, faults)?,
     }
     Ok(bytes)
 }

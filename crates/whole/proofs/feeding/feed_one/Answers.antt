@@ -1,10 +1,12 @@
-use Rattle.std.proofs.Common.{◌≡◌, ◌≤◌, length, vec_items, ap, ◌∙◌, arith}
+use Rattle.std.proofs.Common.{◌≡◌, ap, arith, length}
 use Rattle.std.proofs.lemmas.Result.{IfOk-weaker}
-use Rattle.parser.specs.Meaning.{Meaning, meaning}
+use Rattle.parser.specs.Meaning.{Meaning}
 use Rattle.queue.specs.Waiting.{room, waiting}
 use Rattle.layout.specs.Calling.{standing}
+use Rattle.whole.specs.Keeping.{Gains}
 use Rattle.whole.specs.Whole.{places}
-use Rattle.whole.proofs.Feeds.{one_accepted, one_refused, one_within, refused_empty}
+use Rattle.whole.proofs.Feeds.{one_accepted, one_refused, one_within}
+use Rattle.whole.proofs.Gains.{still}
 use Rattle.whole.proofs.feeding.feed_one.Given as given
 use Rattle.whole.proofs.feeding.feed_one.Goals as goal
 use Rattle.parser.proofs.Bound.{means}
@@ -13,42 +15,31 @@ use Rattle.parser.proofs.Bound.{means}
 abbrev of : (g : given.Over) → g.row.P.Denot → Meaning
 of g p = means g.P.Stepping g.P.Probing p
 
-pub returns-in-Ok : goal.returns-in-Ok
-returns-in-Ok g c =
+pub returns-in-Ok-clause-keeps : goal.returns-in-Ok-clause-keeps
+returns-in-Ok-clause-keeps g c =
     let r = c.args.resolver.now in
     let r' = c.feed.new.resolver in
-    let q = c.args.queue.now in
-    let t = c.args.ticket.now.number in
-    let l = c.args.lexeme in
-    let old = c.args.kept.now in
-    let enough : room q ≡ places = omega (arith, c.requires.places, ap length c.requires.empty) in
-    let few : length (vec_items old.faults) ≤ 256 = omega (arith, c.requires.few, old.faults.ok.0) in
-    let w = c.in-Ok.ensures.writes in
-    record {
-      within = one_within (of g r.parser) (of g r'.parser) (standing r) (standing r') t l (room q) enough (waiting q) (waiting c.feed.new.queue) c.requires.empty _ w;
-      keeps = IfOk-weaker c.drain.result _ _
-          (λ _ e. one_accepted (of g r.parser) (of g r'.parser) (standing r) (standing r') t l (room q) enough (waiting q) (waiting c.feed.new.queue) c.requires.empty c.in-Ok.field-0 (vec_items old.tokens) (vec_items c.drain.new.tokens) (vec_items old.faults) w e few)
-          c.drain.ensures.kept;
-      emptied = c.drain.ensures.emptied;
-      size = c.drain.ensures.size ∙ c.in-Ok.ensures.places.size;
-    }
+    let q = c.new-queue.result in
+    let enough : room q ≡ places = omega (arith, c.new-queue.ensures.size, ap length c.new-queue.ensures.list) in
+    IfOk-weaker c.tokens.result _ _
+    (λ _ e. one_accepted (of g r.parser) (of g r'.parser) (standing r) (standing r') c.args.ticket.now.number c.args.lexeme (room q) enough (waiting q) (waiting c.feed.new.queue) c.new-queue.ensures.list (Gains g.K.Keeper.kept) c.args.progress.now
+    (record { keeper = c.tokens.new.self; refused = c.args.progress.now.refused; places = c.tokens.new.queue.places.now }) c.in-Ok.field-0 c.in-Ok.ensures.writes (record { keeper = e; refused = still c.args.progress.now.refused }))
+    c.tokens.ensures.kept
 
-pub returns-in-Err : goal.returns-in-Err
-returns-in-Err g c =
+pub returns-in-Err-clause-within : goal.returns-in-Err-clause-within
+returns-in-Err-clause-within g c =
     let r = c.args.resolver.now in
     let r' = c.feed.new.resolver in
-    let q = c.args.queue.now in
-    let t = c.args.ticket.now.number in
-    let l = c.args.lexeme in
-    let old = c.args.kept.now in
-    let enough : room q ≡ places = omega (arith, c.requires.places, ap length c.requires.empty) in
-    let w = c.in-Err.ensures.writes in
-    record {
-      within = one_within (of g r.parser) (of g r'.parser) (standing r) (standing r') t l (room q) enough (waiting q) (waiting c.feed.new.queue) c.requires.empty _ w;
-      keeps = IfOk-weaker c.note.result _ _
-          (λ _ e. one_refused (of g r.parser) (of g r'.parser) (standing r) (standing r') t l (room q) enough (waiting q) (waiting c.feed.new.queue) c.requires.empty c.in-Err.fault (vec_items old.tokens) (vec_items old.faults) (vec_items c.note.new.faults) w e)
-          c.note.ensures;
-      emptied = IfOk-weaker c.note.result _ _
-          (λ _ e. refused_empty (of g r.parser) (of g r'.parser) (standing r) (standing r') t l (room q) enough (waiting q) (waiting c.feed.new.queue) c.requires.empty c.in-Err.fault w) c.note.ensures;
-      size = c.in-Err.ensures.places.size;
-    }
+    let q = c.new-queue.result in
+    let enough : room q ≡ places = omega (arith, c.new-queue.ensures.size, ap length c.new-queue.ensures.list) in
+    one_within (of g r.parser) (of g r'.parser) (standing r) (standing r') c.args.ticket.now.number c.args.lexeme (room q) enough (waiting q) (waiting c.feed.new.queue) c.new-queue.ensures.list _ c.in-Err.ensures.writes
+
+pub returns-in-Err-clause-keeps : goal.returns-in-Err-clause-keeps
+returns-in-Err-clause-keeps g c =
+    let r = c.args.resolver.now in
+    let r' = c.feed.new.resolver in
+    let q = c.new-queue.result in
+    let enough : room q ≡ places = omega (arith, c.new-queue.ensures.size, ap length c.new-queue.ensures.list) in
+    IfOk-weaker c.fault.result _ _
+    (λ _ e. one_refused (of g r.parser) (of g r'.parser) (standing r) (standing r') c.args.ticket.now.number c.args.lexeme (room q) enough (waiting q) (waiting c.feed.new.queue) c.new-queue.ensures.list (Gains g.K.Keeper.kept) c.args.progress.now c.fault.new.self c.in-Err.fault c.in-Err.ensures.writes
+    (record { keeper = e.keeper; refused = e.refused })) c.fault.ensures

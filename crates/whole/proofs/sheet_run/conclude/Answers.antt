@@ -1,43 +1,46 @@
-use Rattle.std.proofs.Common.{◌≡◌, ◌<◌, ◌≤◌, List, [], length, vec_items, vec_len, sym, subst, arith, eqb-true}
-use borrow.Author.Tests.{eqb-false}
-use Rattle.std.proofs.lemmas.List.{nil_from_length}
-use Rattle.std.proofs.lemmas.Result.{IfOk-weaker}
-use Rattle.parser.specs.Meaning.{Meaning, meaning}
-use Rattle.sheet.specs.declared.fault.Fault.{Fault}
-use Rattle.layout.specs.Calling.{over, standing}
-use Rattle.whole.specs.Feeding.{Ended}
-use Rattle.whole.specs.Whole.{outcome}
-use Rattle.whole.proofs.Endings.{ended_given_up}
+use Rattle.std.proofs.Common.{◌≡◌, ℕ, [], length, Some, sym, ap, ◌∙◌, subst, arith}
+use Rattle.parser.specs.Meaning.{Meaning}
+use Rattle.queue.specs.Waiting.{room, waiting}
+use Rattle.layout.specs.Calling.{Calls, over, standing}
+use Rattle.layout.specs.declared.call.Answer.TheVariants.{Closed}
+use Rattle.layout.specs.declared.call.Call.TheVariants.{GiveUp}
+use Rattle.layout.specs.declared.resolver.Resolver.{Resolver}
+use Rattle.whole.specs.Feeding.{Closes}
+use Rattle.whole.specs.Whole.{places}
+use Rattle.whole.specs.declared.progress.Progress.{Progress}
+use Rattle.whole.proofs.Endings.{closes_finished, closes_given_up, closes_unfinished, refused_open}
 use Rattle.whole.proofs.sheet_run.conclude.Given as given
 use Rattle.whole.proofs.sheet_run.conclude.Goals as goal
+use Rattle.whole.proofs.sheet_run.conclude.Goals.{in-Ok+in_ok-tokens-in-Ok, in-Err+in_ok-fault-in-Err}
 use Rattle.parser.proofs.Bound.{means}
 
 -- the parser's meaning
 abbrev of : (g : given.Over) → g.row.P.Denot → Meaning
 of g p = means g.P.Stepping g.P.Probing p
 
-pub finish-requires : goal.finish-requires
-finish-requires g c =
-    let v = c.args.kept.faults in
-    let zero : vec_len v ≡ 0 = eqb-true (vec_len v) 0 (sym c.if-is_empty.ensures) in
-    record { sheet = c.requires.sheet; clean = nil_from_length (vec_items v) (omega (arith, zero, v.ok.0)) }
+pub returns-then-progress-clause-closes : goal.returns-then-progress-clause-closes
+returns-then-progress-clause-closes g c = closes_given_up g.met.K.Keeper.laws c.args.end c.args.progress c.if-progress.true c.requires c.give_up.ensures.calls
 
-pub returns-then-is_empty : goal.returns-then-is_empty
-returns-then-is_empty g c =
+pub give_up-requires-in-Err : goal.give_up-requires-in-Err
+give_up-requires-in-Err g c = refused_open c.in-Err.ensures.writes ∙ c.requires ∙ ap (λ (n : ℕ). Some n) (sym c.in-Err.ensures.ticket)
+
+pub returns-clause-closes : goal.returns-clause-closes
+returns-clause-closes g c =
     let r = c.args.resolver.now in
     let z = c.finish.new.resolver in
-    let v = c.args.kept.faults in
-    let zero : vec_len v ≡ 0 = eqb-true (vec_len v) 0 (sym c.if-is_empty.ensures) in
-    let clean : vec_items v ≡ [] = nil_from_length (vec_items v) (omega (arith, zero, v.ok.0)) in
-    record {
-      ends = IfOk-weaker c.finish.result _ _
-          (λ o x. subst (λ (fs : List Fault). Ended (over (of g r.parser) (standing r)) c.args.ticket.number c.args.end (vec_items c.args.kept.tokens) fs (outcome o) (standing z)) (sym clean) x) c.finish.ensures.ends;
-      shut = c.finish.ensures.shut;
-    }
-
-pub returns : goal.returns
-returns g c =
-    let v = c.args.kept.faults in
-    let some : 0 < length (vec_items v) = omega (arith, eqb-false (vec_len v) 0 (sym c.if-is_empty.ensures), v.ok.0) in
-    let few : length (vec_items v) ≤ 256 = omega (arith, c.requires.few, v.ok.0) in
-    record { ends = ended_given_up c.args.end (vec_items c.args.kept.tokens) (vec_items v) some few c.requires.sheet c.give_up.ensures.calls; shut = c.give_up.ensures.shut }
+    let q = c.new-queue.result in
+    let t = c.args.ticket.number in
+    let enough : room q ≡ places = omega (arith, c.new-queue.ensures.size, ap length c.new-queue.ensures.list) in
+    elim c.match-finish.branch [
+      | in-Ok+in_ok-tokens-in-Ok w ↦
+          subst (λ (x : Resolver g.row.P.Denot). Closes g.K.Keeper.kept (over (of g r.parser) (standing r)) t c.args.end c.args.progress c.match-finish.progress.keeper (standing x)) (sym w.resolver-is)
+          (subst (λ (p : Progress g.row.K.Denot). Closes g.K.Keeper.kept (over (of g r.parser) (standing r)) t c.args.end c.args.progress p.keeper (standing z)) (sym w.progress-is)
+          (closes_finished (of g r.parser) (of g z.parser) (standing r) (standing z) t c.args.end (room q) enough (waiting q) (waiting c.finish.new.queue) c.new-queue.ensures.list g.K.Keeper.kept c.args.progress c.if-progress.false w.tokens.new.self w.in-Ok.field-0 w.in-Ok.ensures.writes w.in_ok-tokens-in-Ok.ensures.kept))
+      | in-Err+in_ok-fault-in-Err w ↦
+          let y = w.give_up-in-Err.new.resolver in
+          let x = w.in-Err.ensures.writes in
+          let gives = subst (λ (n : ℕ). Calls (over (of g z.parser) (standing z)) (GiveUp n) Closed [] (over (of g y.parser) (standing y))) w.in-Err.ensures.ticket w.give_up-in-Err.ensures.calls in
+          subst (λ (x : Resolver g.row.P.Denot). Closes g.K.Keeper.kept (over (of g r.parser) (standing r)) t c.args.end c.args.progress c.match-finish.progress.keeper (standing x)) (sym w.resolver-is)
+          (subst (λ (p : Progress g.row.K.Denot). Closes g.K.Keeper.kept (over (of g r.parser) (standing r)) t c.args.end c.args.progress p.keeper (standing y)) (sym w.progress-is)
+          (closes_unfinished (of g r.parser) (of g z.parser) (standing r) (standing z) t c.args.end (room q) enough (waiting q) (waiting c.finish.new.queue) c.new-queue.ensures.list g.K.Keeper.kept c.args.progress c.if-progress.false w.fault.new.self (of g y.parser) (standing y) w.in-Err.field-0.fault [] x (refused_open x ∙ c.requires) gives w.in_ok-fault-in-Err.ensures))
+    ]

@@ -1,9 +1,0 @@
-use Rattle.std.proofs.Common.{◌≡◌, ◌++◌, length, vec_items}
-use Rattle.queue.specs.Waiting.{capacity, waiting}
-use Rattle.whole.proofs.feeding.drain.Given as goal
-
-abbrev pub invariant-loop-token : goal.invariant-loop-token
-invariant-loop-token l = (vec_items l.tokens ++ waiting l.queue ≡ vec_items l.initial.tokens ++ waiting l.initial.queue) × (capacity l.queue ≡ capacity l.initial.queue)
-
-abbrev pub decreases-loop-token : goal.decreases-loop-token
-decreases-loop-token l = length (waiting l.queue)

@@ -1,0 +1,40 @@
+// Beginning a sheet, and keeping what was refused of it.
+ghost use Rattle.std.specs.Prelude.{◌≡◌, false, [], ◌∷◌, OnOk};
+ghost use Rattle.whole.specs.Keeping.{Gains, stop_faults};
+
+use super::{PLACES, Progress};
+use crate::keeper::Keeper;
+use reader::Stop;
+use sheet::{Fault, Token};
+
+impl<K: Keeper> Progress<K> {
+    // Of a sheet of which nothing was fed yet.
+    pub fn new(keeper: K) -> Progress<K>
+        ensures keeper { result.keeper ≡ keeper }
+        ensures refused { result.refused ≡ false }
+    {
+        Progress {
+            keeper,
+            refused: false,
+            places: [Token::default(); PLACES],
+        }
+    }
+
+    // Keeps a fault.
+    pub fn fault(&mut self, fault: Fault) -> Result<(), K::Error>
+        ensures { OnOk result (Gains K.kept self.old [] (fault ∷ []) self.new) }
+    {
+        self.refused = true;
+        self.keeper.fault(fault)
+    }
+
+    // Keeps the fault at which a reading stopped, if it did at one.
+    pub fn stop(&mut self, stop: Stop) -> Result<(), K::Error>
+        ensures { OnOk result (Gains K.kept self.old [] (stop_faults stop) self.new) }
+    {
+        match stop {
+            Stop::Fault(fault) => self.fault(fault),
+            Stop::Full(_) => Ok(()),
+        }
+    }
+}

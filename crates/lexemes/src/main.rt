@@ -12,16 +12,6 @@ use sheet::Lexeme;
 use std::io;
 use std::io::{BufWriter, Read, Write};
 
-// What stands in the queue's places before the first lexeme.
-const NO_LEXEME: Lexeme = Lexeme {
-    kind: 0,
-    line: 0,
-    column: 0,
-    first: false,
-    offset: 0,
-    length: 0,
-};
-
 // Writes and empties what waits in the queue, and answers how many lexemes that were.
 fn write_waiting<W: Write>(
     text: &[u8],
@@ -68,7 +58,7 @@ fn write_items<W: Write>(text: &[u8], queue: &mut Queue<'_, Lexeme>, out: &mut W
 fn main(rt: HostRuntime) -> io::Result<()> {
     let mut text = Vec::new(rt.alloc());
     rt.stdin().read_to_end(&mut text)?;
-    let mut places = [NO_LEXEME; 16];
+    let mut places = [Lexeme::default(); 16];
     let mut queue = Queue::new(&mut places);
     let mut out = BufWriter::new(rt.alloc(), rt.stdout())?;
     match check(&text) {

@@ -4,13 +4,10 @@ ghost use Rattle.reader.specs.Items.{fault_at, judged};
 
 use crate::cursor::Cursor;
 use crate::run::Run;
-use sheet::{Fault, Lexeme, Reason};
+use sheet::{Fault, LAST_COLUMN, Lexeme, Reason};
 
 // A name or a number has at most so many bytes.
 const LONGEST_RUN: usize = 64;
-
-// A lexeme begins at most at this column.
-const LAST_COLUMN: u32 = 4_095;
 
 // A lexeme or a fault, and where the reader stands after it.
 #[derive(Clone, Copy)]

@@ -2,16 +2,6 @@ use crate::{Reader, Stop, TooLong, check};
 use queue::{Full, Queue};
 use sheet::{Fault, Kind, Lexeme, Place, Reason};
 
-// What stands in the queue's places before the first lexeme.
-const NO_LEXEME: Lexeme = Lexeme {
-    kind: 0,
-    line: 0,
-    column: 0,
-    first: false,
-    offset: 0,
-    length: 0,
-};
-
 fn unreadable(column: u32) -> Stop {
     Stop::Fault(Fault {
         reason: Reason::UnreadableByte,
@@ -23,7 +13,7 @@ fn unreadable(column: u32) -> Stop {
 
 // Where a reader stands in a text without lexemes and faults after it was read.
 fn end_of(text: &[u8]) -> Place {
-    let mut places = [NO_LEXEME; 0];
+    let mut places = [Lexeme::default(); 0];
     let mut queue = Queue::new(&mut places);
     let mut reader = Reader::open(text);
     let _ = reader.read(&mut queue);
@@ -32,7 +22,7 @@ fn end_of(text: &[u8]) -> Place {
 
 #[test]
 fn a_text_of_no_bytes_ends_at_once(rt: HostRuntime) {
-    let mut places = [NO_LEXEME; 1];
+    let mut places = [Lexeme::default(); 1];
     let mut queue = Queue::new(&mut places);
     let mut reader = Reader::open(b"");
     assert_eq!(rt; reader.read(&mut queue), Ok(0));
@@ -44,7 +34,7 @@ fn a_text_too_long_is_read_as_empty(rt: HostRuntime) {
     let text = [b'a'; 65_536];
     assert_eq!(rt; check(&text[1..]), Ok(()));
     assert_eq!(rt; check(&text), Err(TooLong));
-    let mut places = [NO_LEXEME; 1];
+    let mut places = [Lexeme::default(); 1];
     let mut queue = Queue::new(&mut places);
     let mut reader = Reader::open(&text);
     assert_eq!(rt; reader.read(&mut queue), Ok(0));
@@ -52,7 +42,7 @@ fn a_text_too_long_is_read_as_empty(rt: HostRuntime) {
 
 #[test]
 fn a_queue_of_no_places_takes_no_lexeme(rt: HostRuntime) {
-    let mut places = [NO_LEXEME; 0];
+    let mut places = [Lexeme::default(); 0];
     let mut queue = Queue::new(&mut places);
     let mut reader = Reader::open(b"@a");
     assert_eq!(rt; reader.read(&mut queue), Err(unreadable(1)));
@@ -64,7 +54,7 @@ fn a_queue_of_no_places_takes_no_lexeme(rt: HostRuntime) {
 
 #[test]
 fn reading_goes_on_where_the_queue_was_full(rt: HostRuntime) {
-    let mut places = [NO_LEXEME; 1];
+    let mut places = [Lexeme::default(); 1];
     let mut queue = Queue::new(&mut places);
     let mut reader = Reader::open(b"a b");
     assert_eq!(rt; reader.read(&mut queue), Err(Stop::Full(Full)));
@@ -82,7 +72,7 @@ fn a_return_and_a_line_feed_end_one_line(rt: HostRuntime) {
 // Five bytes are blanks and line ends.
 #[test]
 fn each_byte_alone(rt: HostRuntime) {
-    let mut places = [NO_LEXEME; 1];
+    let mut places = [Lexeme::default(); 1];
     let mut queue = Queue::new(&mut places);
     let mut lexemes = 0u32;
     let mut faults = 0u32;
@@ -102,7 +92,7 @@ fn each_byte_alone(rt: HostRuntime) {
 
 #[test]
 fn a_second_point_is_no_part_of_a_number(rt: HostRuntime) {
-    let mut places = [NO_LEXEME; 2];
+    let mut places = [Lexeme::default(); 2];
     let mut queue = Queue::new(&mut places);
     let mut reader = Reader::open(b"1.5.6");
     assert_eq!(rt; reader.read(&mut queue), Err(unreadable(4)));

@@ -74,6 +74,9 @@ impl TryFrom<u32> for Kind {
     }
 }
 
+// A lexeme begins at most at this column.
+pub const LAST_COLUMN: u32 = 4_095;
+
 // A line and a column, both counted from 1.
 #[derive(Clone, Copy, Debug, PartialEq, Eq)]
 pub struct Place {

@@ -7,4 +7,4 @@ mod fault;
 mod lexeme;
 
 pub use fault::{Fault, Layer, Reason};
-pub use lexeme::{Kind, Lexeme, NoKind, Place, Token};
+pub use lexeme::{Kind, LAST_COLUMN, Lexeme, NoKind, Place, Token};

@@ -16,10 +16,7 @@ use crate::draft::Draft;
 use crate::marked::Marked;
 use crate::rule::Before;
 use parser::Stepping;
-use sheet::{Lexeme, Place, Reason};
-
-// The columns at which a lexeme may stand.
-const LAST_COLUMN: u32 = 4095;
+use sheet::{LAST_COLUMN, Lexeme, Place, Reason};
 
 // Whether a lexeme may be fed: it has one of the fifteen kinds, and a column within the limit.
 fn is_good(lexeme: &Lexeme) -> bool

@@ -1,15 +1,12 @@
 -- Candidate sets that are closed under a grammar: nothing else derives the empty list, begins or follows.
 -- Assumes nothing.
-use Rattle.std.proofs.Common.{◌≡◌, ℕ, ◌≤◌, Bool, true, false, ◌&&◌, ◌||◌, eqb, leb, ◌⊎◌, List, [], ◌∷◌, ◌++◌, refl, inl, inr, ⊎_elim, arith, eq-eqb, le-leb, leb-true}
+use Rattle.std.proofs.Common.{◌≡◌, ℕ, ◌≤◌, Bool, true, false, ◌&&◌, ◌||◌, eqb, leb, ◌⊎◌, List, [], ◌∷◌, ◌++◌, sym, refl, ◌∙◌, inl, inr, ⊎_elim, arith, eq-eqb, le-leb, leb-true}
 use borrow.Author.Tests.{both_ways}
+use Rattle.std.specs.List.{list_all}
+use Rattle.std.proofs.lemmas.List.Folds.{list_all-append}
 use Rattle.std.proofs.lemmas.Bool.{and_parts, and_from, or_cases, or_left, or_right}
 use Rattle.grammar.specs.Grammar.{Production, Grammar, Numbered, Derives, done, keep, replace, IsKind, IsNonterminal, start, CanFollow}
 use Rattle.grammar.proofs.Tests.{implies, implied, below, at_below, each, at_each}
-
--- every symbol of the list is among the nullable ones
-abbrev pub vanishes : (ℕ → Bool) → List ℕ → Bool
-vanishes null [] = true
-vanishes null (s ∷ x) = null s && vanishes null x
 
 -- a symbol begins with itself, and with what the candidates say
 abbrev pub leads : (ℕ → ℕ → Bool) → ℕ → ℕ → Bool
@@ -24,12 +21,12 @@ begins null begin (s ∷ x) t = leads begin s t || (null s && begins null begin 
 abbrev pub follows : (ℕ → Bool) → (ℕ → ℕ → Bool) → (ℕ → ℕ → Bool) → ℕ → ℕ → List ℕ → Bool
 follows null begin follow a t [] = true
 follows null begin follow a t (s ∷ x) =
-    implies (leb 16 s) (implies (begins null begin x t) (follow s t) && implies (vanishes null x && follow a t) (follow s t)) && follows null begin follow a t x
+    implies (leb 16 s) (implies (begins null begin x t) (follow s t) && implies (list_all null x && follow a t) (follow s t)) && follows null begin follow a t x
 
 -- the candidates are closed under the grammar: four tests over all its productions
 pub record Closed (G : Grammar) (null : ℕ → Bool) (begin follow : ℕ → ℕ → Bool) : Type 0 where
   pub lefts : each (λ n p. leb 16 p.left) 0 G ≡ true
-  pub nulls : each (λ n p. implies (vanishes null p.right) (null p.left)) 0 G ≡ true
+  pub nulls : each (λ n p. implies (list_all null p.right) (null p.left)) 0 G ≡ true
   pub begun : each (λ n p. below (λ t. implies (begins null begin p.right t) (leads begin p.left t)) 16) 0 G ≡ true
   pub followed : each (λ n p. below (λ t. follows null begin follow p.left t p.right) 16) 0 G ≡ true
 
@@ -39,16 +36,9 @@ Sound null begin follow [] = Unit {0}
 Sound null begin follow (s ∷ x) =
     (IsNonterminal s → (t : ℕ) → IsKind t → begins null begin x t ≡ true → follow s t ≡ true) × Sound null begin follow x
 
-vanishes_parts : (null : ℕ → Bool) (x y : List ℕ) → vanishes null (x ++ y) ≡ true → (vanishes null x ≡ true) × (vanishes null y ≡ true)
-vanishes_parts null [] y h = (refl, h)
-vanishes_parts null (s ∷ x) y h =
-    let parts = and_parts (null s) (vanishes null (x ++ y)) h in
-    let rest = vanishes_parts null x y parts.1 in
-    (and_from (null s) (vanishes null x) parts.0 rest.0, rest.1)
-
 module _ (null : ℕ → Bool) (begin : ℕ → ℕ → Bool) where
   -- t begins one list after another in the first, or passes it and begins the second
-  pub begins_parts : (x y : List ℕ) (t : ℕ) → begins null begin (x ++ y) t ≡ true → (begins null begin x t ≡ true) ⊎ ((vanishes null x ≡ true) × (begins null begin y t ≡ true))
+  pub begins_parts : (x y : List ℕ) (t : ℕ) → begins null begin (x ++ y) t ≡ true → (begins null begin x t ≡ true) ⊎ ((list_all null x ≡ true) × (begins null begin y t ≡ true))
   begins_parts [] y t h = inr (refl, h)
   begins_parts (s ∷ x) y t h =
       ⊎_elim
@@ -57,7 +47,7 @@ module _ (null : ℕ → Bool) (begin : ℕ → ℕ → Bool) where
       let parts = and_parts (null s) (begins null begin (x ++ y) t) e in
       ⊎_elim
       (λ i. inl (or_right (leads begin s t) (null s && begins null begin x t) (and_from (null s) (begins null begin x t) parts.0 i)))
-      (λ o. inr (and_from (null s) (vanishes null x) parts.0 o.0, o.1))
+      (λ o. inr (and_from (null s) (list_all null x) parts.0 o.0, o.1))
       (begins_parts x y t parts.1))
       (or_cases (leads begin s t) (null s && begins null begin (x ++ y) t) h)
 
@@ -75,9 +65,9 @@ module _ {G : Grammar} {null : ℕ → Bool} {begin follow : ℕ → ℕ → Boo
   pub left_high : {n : ℕ} {p : Production} → Numbered G n p → 16 ≤ p.left
   left_high {p = p} d = leb-true 16 p.left (at_each (λ n p. leb 16 p.left) G ok.lefts d)
 
-  null_closed : {n : ℕ} {p : Production} → Numbered G n p → vanishes null p.right ≡ true → null p.left ≡ true
+  null_closed : {n : ℕ} {p : Production} → Numbered G n p → list_all null p.right ≡ true → null p.left ≡ true
   null_closed {p = p} d e =
-      implied (vanishes null p.right) (null p.left) (at_each (λ n p. implies (vanishes null p.right) (null p.left)) G ok.nulls d) e
+      implied (list_all null p.right) (null p.left) (at_each (λ n p. implies (list_all null p.right) (null p.left)) G ok.nulls d) e
 
   begin_closed : {n : ℕ} {p : Production} (t : ℕ) → Numbered G n p → IsKind t → begins null begin p.right t ≡ true → leads begin p.left t ≡ true
   begin_closed {p = p} t d k e =
@@ -90,14 +80,14 @@ module _ {G : Grammar} {null : ℕ → Bool} {begin follow : ℕ → ℕ → Boo
       at_below (λ t. follows null begin follow p.left t p.right) 16 t here (omega arith)
 
   -- what derives a nullable list is nullable
-  pub vanishes_back : {x w : List ℕ} → Derives G x w → vanishes null w ≡ true → vanishes null x ≡ true
+  pub vanishes_back : {x w : List ℕ} → Derives G x w → list_all null w ≡ true → list_all null x ≡ true
   vanishes_back done e = e
   vanishes_back (keep {s = s} {x = x} {w = w} d) e =
-      let parts = and_parts (null s) (vanishes null w) e in
-      and_from (null s) (vanishes null x) parts.0 (vanishes_back d parts.1)
+      let parts = and_parts (null s) (list_all null w) e in
+      and_from (null s) (list_all null x) parts.0 (vanishes_back d parts.1)
   vanishes_back (replace {p = p} {x = x} n d) e =
-      let parts = vanishes_parts null p.right x (vanishes_back d e) in
-      and_from (null p.left) (vanishes null x) (null_closed n parts.0) parts.1
+      let parts = and_parts (list_all null p.right) (list_all null x) (sym (list_all-append null p.right x) ∙ vanishes_back d e) in
+      and_from (null p.left) (list_all null x) (null_closed n parts.0) parts.1
 
   -- what begins a derived list begins the list that it is derived from
   pub begins_back : {x w : List ℕ} (t : ℕ) → IsKind t → Derives G x w → begins null begin w t ≡ true → begins null begin x t ≡ true
@@ -121,10 +111,10 @@ module _ {G : Grammar} {null : ℕ → Bool} {begin follow : ℕ → ℕ → Boo
   suffix_sound a (s ∷ y) x fits after rest = (
     λ high t k e.
         let test = (and_parts _ _ (fits t k)).0 in
-        let both = and_parts (implies (begins null begin y t) (follow s t)) (implies (vanishes null y && follow a t) (follow s t)) (implied (leb 16 s) _ test (le-leb 16 s high)) in
+        let both = and_parts (implies (begins null begin y t) (follow s t)) (implies (list_all null y && follow a t) (follow s t)) (implied (leb 16 s) _ test (le-leb 16 s high)) in
         ⊎_elim
         (λ l. implied (begins null begin y t) (follow s t) both.0 l)
-        (λ r. implied (vanishes null y && follow a t) (follow s t) both.1 (and_from (vanishes null y) (follow a t) r.0 (after t k r.1)))
+        (λ r. implied (list_all null y && follow a t) (follow s t) both.1 (and_from (list_all null y) (follow a t) r.0 (after t k r.1)))
         (begins_parts null begin y x t e),
     suffix_sound a y x (λ t k. (and_parts _ _ (fits t k)).1) after rest,
   )

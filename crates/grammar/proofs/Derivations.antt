@@ -15,8 +15,8 @@ derives_append (keep d) e = keep (derives_append d e)
 derives_append {G} {y = y} {v = v} (replace {p = p} {x = x} {w = w} n d) e =
     replace n (subst (λ z. Derives G z (w ++ v)) (append_assoc p.right x y) (derives_append d e))
 
--- equal lists have equal parts
-nil_cons : {s : ℕ} {l : List ℕ} → [] ≡ s ∷ l → ⊥
+-- an empty list is none with a first symbol, and equal lists have equal parts
+pub nil_cons : {s : ℕ} {l : List ℕ} → [] ≡ s ∷ l → ⊥
 nil_cons {s} {l} e = let z : ◌≡◌ {A = ℕ} 0 1 = cc in omega arith
 
 cons_head : {r s : ℕ} {k l : List ℕ} → r ∷ k ≡ s ∷ l → r ≡ s

@@ -1,17 +1,18 @@
--- The sheet grammar's sets are exact: every member has a script that shows it, and the sets are closed, so that there
+-- The sheet grammar's sets are exact: list_all member has a script that shows it, and the sets are closed, so that there
 -- are no other members.
 -- Assumes nothing.
 use Rattle.std.proofs.Common.{◌≡◌, ℕ, ◌≤◌, Bool, true, false, ◌&&◌, eqb, leb, List, [], ◌∷◌, ◌++◌, Decides, sym, refl, subst, ⊎_elim, arith, eqb-true, le-leb, leb-true}
 use borrow.Author.Tests.{both_ways}
+use Rattle.std.specs.List.{list_all}
 use Rattle.std.proofs.lemmas.Bool.{and_parts, or_cases, cases_lt}
 use Rattle.grammar.specs.Grammar.{Derives, done, keep, replace, IsKind, IsNonterminal, Kinds, start, Nullable, CanBegin, CanFollow, among}
 use Rattle.grammar.specs.Sheet.{sheet}
 use Rattle.grammar.specs.Sets.{nullables, beginner_rows, follower_rows, beginners, followers}
 use Rattle.grammar.proofs.Tests.{implies, implied, below, at_below, at_each}
 use Rattle.grammar.proofs.Derivations.{derives_refl, derives_append}
-use Rattle.grammar.proofs.Closed.{Closed, leads, vanishes, begins, vanishes_back, begins_sound, follow_sound}
+use Rattle.grammar.proofs.Closed.{Closed, leads, begins, vanishes_back, begins_sound, follow_sound}
 use Rattle.grammar.proofs.Scripts.{plays, played, play}
-use Rattle.grammar.proofs.Witnessed.{Witness, script, every, member, row_member, row_high, is_empty, is_empty_lem, headed, is_headed, adjacent, is_adjacent, is_kind, is_kind_lem, all_kinds, all_kinds_lem}
+use Rattle.grammar.proofs.Witnessed.{Witness, script, member, row_member, row_high, is_empty, is_empty_lem, headed, is_headed, adjacent, is_adjacent, is_kind, is_kind_lem, all_kinds_lem}
 
 -- from a nonterminal to the empty list
 abbrev to_nothing : List Witness
@@ -132,15 +133,15 @@ follow_by s t =
 abbrev kinds_by : ℕ → Bool
 kinds_by s =
     let by = script to_kinds s 0 in
-    plays sheet by (s ∷ []) && all_kinds (played sheet by (s ∷ []))
+    plays sheet by (s ∷ []) && list_all is_kind (played sheet by (s ∷ []))
 
-all_null : every null_by nullables ≡ true
+all_null : list_all null_by nullables ≡ true
 all_null = refl
 
-all_begin : below (λ s. every (begin_by s) (beginners s)) 26 ≡ true
+all_begin : below (λ s. list_all (begin_by s) (beginners s)) 26 ≡ true
 all_begin = refl
 
-all_follow : below (λ s. every (follow_by s) (followers s)) 26 ≡ true
+all_follow : below (λ s. list_all (follow_by s) (followers s)) 26 ≡ true
 all_follow = refl
 
 all_productive : below (λ s. implies (leb 16 s) (kinds_by s)) 26 ≡ true
@@ -173,7 +174,7 @@ follow_derives s t e =
     let v = is_adjacent s t (played sheet by (start ∷ [])) both.1 in
     (v.0, v.1, row_high follower_rows s t e, is_kind_lem t parts.0, subst (Derives sheet (start ∷ [])) v.2 (play sheet by (start ∷ []) both.0))
 
--- every symbol up to 25 derives some list of kinds
+-- list_all symbol up to 25 derives some list of kinds
 pub productive : (s : ℕ) → 1 ≤ s → s ≤ 25 → (w : List ℕ) × Derives sheet (s ∷ []) w × Kinds w
 productive s low high =
     ⊎_elim
@@ -181,7 +182,7 @@ productive s low high =
     (λ h.
     let by = script to_kinds s 0 in
     let passed = implied (leb 16 s) (kinds_by s) (at_below (λ s. implies (leb 16 s) (kinds_by s)) 26 s all_productive (omega arith)) (le-leb 16 s h) in
-    let parts = and_parts (plays sheet by (s ∷ [])) (all_kinds (played sheet by (s ∷ []))) passed in
+    let parts = and_parts (plays sheet by (s ∷ [])) (list_all is_kind (played sheet by (s ∷ []))) passed in
     (played sheet by (s ∷ []), play sheet by (s ∷ []) parts.0, all_kinds_lem (played sheet by (s ∷ [])) parts.1))
     (cases_lt s 16)
 
@@ -215,13 +216,13 @@ pub follow_test : (s t : ℕ) → Decides (follow s t) (CanFollow sheet s t)
 follow_test s t = (follow_derives s t, follow_sound closed s t)
 
 -- a list derives the empty list where all its symbols are nullable
-vanishes_derives : (x : List ℕ) → vanishes null x ≡ true → Derives sheet x []
+vanishes_derives : (x : List ℕ) → list_all null x ≡ true → Derives sheet x []
 vanishes_derives [] e = done
 vanishes_derives (s ∷ x) e =
-    let parts = and_parts (null s) (vanishes null x) e in
+    let parts = and_parts (null s) (list_all null x) e in
     derives_append (null_derives s parts.0) (vanishes_derives x parts.1)
 
-pub vanishes_exact : (x : List ℕ) → Decides (vanishes null x) (Nullable sheet x)
+pub vanishes_exact : (x : List ℕ) → Decides (list_all null x) (Nullable sheet x)
 vanishes_exact x = (vanishes_derives x, λ d. vanishes_back closed d refl)
 
 leads_derives : (s t : ℕ) → IsKind t → leads begin s t ≡ true → CanBegin sheet (s ∷ []) t
@@ -246,19 +247,18 @@ begins_derives (s ∷ x) t k e =
 pub begins_exact : (x : List ℕ) (t : ℕ) → IsKind t → Decides (begins null begin x t) (CanBegin sheet x t)
 begins_exact x t k = (begins_derives x t k, λ b. begins_sound closed t k b.2)
 
--- every symbol of the list is one of the grammar's
+-- list_all symbol of the list is one of the grammar's
 abbrev pub Known : List ℕ → Type 0
 Known [] = Unit {0}
 Known (s ∷ x) = (1 ≤ s) × (s ≤ 25) × Known x
 
-abbrev known : List ℕ → Bool
-known [] = true
-known (s ∷ x) = (leb 1 s && leb s 25) && known x
+abbrev known : ℕ → Bool
+known s = leb 1 s && leb s 25
 
-known_is : (x : List ℕ) → known x ≡ true → Known x
+known_is : (x : List ℕ) → list_all known x ≡ true → Known x
 known_is [] e = tt
 known_is (s ∷ x) e =
-    let parts = and_parts (leb 1 s && leb s 25) (known x) e in
+    let parts = and_parts (known s) (list_all known x) e in
     let both = and_parts (leb 1 s) (leb s 25) parts.0 in
     (leb-true 1 s both.0, leb-true s 25 both.1, known_is x parts.1)
 
@@ -271,7 +271,7 @@ pub known_derived : {x w : List ℕ} → Derives sheet x w → Known x → Known
 known_derived done h = h
 known_derived (keep d) h = (h.0, h.1, known_derived d h.2)
 known_derived (replace {p = p} {x = x} n d) h =
-    known_derived d (known_append p.right x (known_is p.right (at_each (λ n p. known p.right) sheet refl n)) h.2)
+    known_derived d (known_append p.right x (known_is p.right (at_each (λ n p. list_all known p.right) sheet refl n)) h.2)
 
 -- a list of the grammar's symbols derives some list of kinds
 pub kinds_derived : (x : List ℕ) → Known x → (w : List ℕ) × Derives sheet x w × Kinds w

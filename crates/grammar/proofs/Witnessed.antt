@@ -2,6 +2,7 @@
 -- Assumes nothing.
 use Rattle.std.proofs.Common.{◌≡◌, ℕ, ◌-◌, ◌≤◌, Bool, true, false, cond, ◌&&◌, ◌||◌, eqb, ltb, leb, List, [], ◌∷◌, ◌++◌, length, get_or, sym, refl, ap, ◌∙◌, subst, ⊎_elim, arith, le-ltb, lt-ltb, eqb-true, leb-true}
 use borrow.Author.Tests.{both_ways}
+use Rattle.std.specs.List.{list_all}
 use Rattle.std.proofs.lemmas.Bool.{and_parts, or_cases, cases_lt, cond-true, cond-false}
 use Rattle.std.proofs.lemmas.List.{get_or_past}
 use Rattle.grammar.specs.Grammar.{IsKind, Kinds, among}
@@ -17,15 +18,11 @@ abbrev pub script : List Witness → ℕ → ℕ → List ℕ
 script [] s t = []
 script (w ∷ ws) s t = cond (eqb w.0 s && eqb w.1 t) w.2 (script ws s t)
 
--- the test passes at every member
-abbrev pub every : (ℕ → Bool) → List ℕ → Bool
-every f [] = true
-every f (t ∷ ts) = f t && every f ts
-
-pub member : (f : ℕ → Bool) (ts : List ℕ) (t : ℕ) → every f ts ≡ true → among t ts ≡ true → f t ≡ true
+-- where a test passes at all, it passes at each member
+pub member : (f : ℕ → Bool) (ts : List ℕ) (t : ℕ) → list_all f ts ≡ true → among t ts ≡ true → f t ≡ true
 member f [] t h e = absurd (both_ways false refl e)
 member f (s ∷ ts) t h e =
-    let parts = and_parts (f s) (every f ts) h in
+    let parts = and_parts (f s) (list_all f ts) h in
     ⊎_elim
     (λ same. subst (λ k. f k ≡ true) (sym (eqb-true t s same)) parts.0)
     (λ more. member f ts t parts.1 more)
@@ -43,10 +40,10 @@ row_high rows s t h =
     (cases_lt s 16)
 
 -- a member of one of the ten rows passes the test that all pass
-pub row_member : (f : ℕ → ℕ → Bool) (rows : List (List ℕ)) (s t : ℕ) → length rows ≡ 10 → below (λ s. every (f s) (row rows s)) 26 ≡ true → among t (row rows s) ≡ true → f s t ≡ true
+pub row_member : (f : ℕ → ℕ → Bool) (rows : List (List ℕ)) (s t : ℕ) → length rows ≡ 10 → below (λ s. list_all (f s) (row rows s)) 26 ≡ true → among t (row rows s) ≡ true → f s t ≡ true
 row_member f rows s t ten passed h =
     ⊎_elim
-    (λ inside. member (f s) (row rows s) t (at_below (λ s. every (f s) (row rows s)) 26 s passed inside) h)
+    (λ inside. member (f s) (row rows s) t (at_below (λ s. list_all (f s) (row rows s)) 26 s passed inside) h)
     (λ past. absurd (no_member t (row rows s) (cond-false (ltb s 16) [] (get_or rows (s - 16) []) (le-ltb s 16 (omega arith)) ∙ get_or_past rows (s - 16) [] (omega arith)) h))
     (cases_lt s 26)
 
@@ -90,13 +87,8 @@ is_kind t = leb 1 t && leb t 15
 pub is_kind_lem : (t : ℕ) → is_kind t ≡ true → IsKind t
 is_kind_lem t e = let both = and_parts (leb 1 t) (leb t 15) e in (leb-true 1 t both.0, leb-true t 15 both.1)
 
--- every symbol of the list is a kind
-abbrev pub all_kinds : List ℕ → Bool
-all_kinds [] = true
-all_kinds (s ∷ w) = is_kind s && all_kinds w
-
-pub all_kinds_lem : (w : List ℕ) → all_kinds w ≡ true → Kinds w
+pub all_kinds_lem : (w : List ℕ) → list_all is_kind w ≡ true → Kinds w
 all_kinds_lem [] e = tt
 all_kinds_lem (s ∷ w) e =
-    let parts = and_parts (is_kind s) (all_kinds w) e in
+    let parts = and_parts (is_kind s) (list_all is_kind w) e in
     (is_kind_lem s parts.0, all_kinds_lem w parts.1)

@@ -1,5 +1,6 @@
 // Context-free grammars, defined once for every parser: productions, what they derive, what can begin and what
-// can follow (specs/Grammar.antt), and the grammar of sheets with its productions at hand.
+// can follow (specs/Grammar.antt), and the grammar of sheets with its productions at hand. Symbols and productions are
+// numbers, and each function answers for any number: an enum in their place would ask more of callers.
 
 #![tactic(auto)]
 

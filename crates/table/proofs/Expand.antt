@@ -7,7 +7,7 @@ use native.Mathlib.Nat.{ℕ_set}
 use Rattle.grammar.specs.Grammar.{Production, Numbered, Derives, done, keep, replace, nth, start, IsKind, IsNonterminal, CanFollow}
 use Rattle.grammar.specs.Sheet.{sheet}
 use Rattle.grammar.proofs.Tests.{numbered_positive, numbered_nth}
-use Rattle.grammar.proofs.Derivations.{derives_refl, derives_append, derives_trans, derives_within, begin_parts}
+use Rattle.grammar.proofs.Derivations.{nil_cons, derives_refl, derives_append, derives_trans, derives_within, begin_parts}
 use Rattle.grammar.proofs.Closed.{left_high}
 use Rattle.grammar.proofs.SheetSets.{closed, Known, known_derived}
 use Rattle.table.specs.Entry.{Entry}
@@ -23,7 +23,7 @@ pub record Replaced (a : ℕ) (rest : List ℕ) (t : ℕ) (w : List ℕ) : Type 
 
 -- by keeping it or by one of its productions
 invert : {x v : List ℕ} (a : ℕ) (rest : List ℕ) (t : ℕ) (w : List ℕ) → Derives sheet x v → x ≡ a ∷ rest → v ≡ t ∷ w → ((a ≡ t) × Derives sheet rest w) ⊎ Replaced a rest t w
-invert a rest t w done e f = absurd (let z : ◌≡◌ {A = ℕ} 0 1 = cc in omega arith)
+invert a rest t w done e f = absurd (nil_cons e)
 invert a rest t w (keep {s = s} {x = x} {w = v} d) e f =
     let ra : s ≡ a = cc in
     let rt : s ≡ t = cc in
@@ -109,11 +109,11 @@ kind_met s rest t low same w =
 
 nothing : {x v : List ℕ} → Derives sheet x v → x ≡ [] → v ≡ []
 nothing done e = refl
-nothing (keep d) e = absurd (let z : ◌≡◌ {A = ℕ} 0 1 = cc in omega arith)
-nothing (replace n d) e = absurd (let z : ◌≡◌ {A = ℕ} 0 1 = cc in omega arith)
+nothing (keep d) e = absurd (nil_cons (sym e))
+nothing (replace n d) e = absurd (nil_cons (sym e))
 
 pub empty_never : (t : ℕ) → Never t []
-empty_never t w d = let e = nothing d refl in let z : ◌≡◌ {A = ℕ} 0 1 = cc in omega arith
+empty_never t w d = nil_cons (sym (nothing d refl))
 
 known_prop : (x : List ℕ) → IsProp (Known x)
 known_prop [] u v = refl

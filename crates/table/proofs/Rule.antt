@@ -1,18 +1,19 @@
 -- The table's rule, proved at all of its entries by one test that antt computes, and carried to each entry.
 -- Assumes nothing.
 use Rattle.std.proofs.Common.{◌≡◌, ℕ, ◌+◌, ◌-◌, ◌≤◌, Bool, true, not, ◌&&◌, ◌||◌, eqb, leb, ◌⊎◌, [], get_or, refl, subst, inl, inr, ⊎_elim, arith, eq-eqb, ne_eqb, eqb-true, leb-true}
+use Rattle.std.specs.List.{list_all}
 use Rattle.std.proofs.lemmas.Bool.{and_parts, and_from, or_cases, or_left, or_right, not_from_false}
 use Rattle.grammar.specs.Grammar.{Production, nth, IsKind, Nullable, CanBegin, CanFollow}
 use Rattle.grammar.specs.Sheet.{sheet}
 use Rattle.grammar.proofs.Tests.{implies, implied, below, at_below, each, at_each, numbered}
-use Rattle.grammar.proofs.Closed.{vanishes, begins, left_high}
+use Rattle.grammar.proofs.Closed.{begins, left_high}
 use Rattle.grammar.proofs.SheetSets.{null, begin, follow, closed, vanishes_exact, begins_exact, follow_test}
 use Rattle.table.specs.Cells.{cells}
 use Rattle.table.specs.Entry.{Predicts, Entry}
 
 -- the test of what it means that a production is for a and t
 abbrev fits : ℕ → ℕ → Production → Bool
-fits a t p = eqb p.left a && (begins null begin p.right t || (vanishes null p.right && follow a t))
+fits a t p = eqb p.left a && (begins null begin p.right t || (list_all null p.right && follow a t))
 
 -- every production that fits has the number e, and e, unless it is 0, is one that fits
 abbrev right : ℕ → ℕ → ℕ → Bool
@@ -41,20 +42,20 @@ fits_predicts a t p k same way =
     and_from (eqb p.left a) _ (eq-eqb p.left a same)
     (⊎_elim
     (λ b. or_left (begins null begin p.right t) _ ((begins_exact p.right t k).1 b))
-    (λ n. or_right (begins null begin p.right t) _ (and_from (vanishes null p.right) (follow a t) ((vanishes_exact p.right).1 n.0) ((follow_test a t).1 n.1)))
+    (λ n. or_right (begins null begin p.right t) _ (and_from (list_all null p.right) (follow a t) ((vanishes_exact p.right).1 n.0) ((follow_test a t).1 n.1)))
     way)
 
 predicts_fits : (a t n : ℕ) → IsKind t → 1 ≤ n → n ≤ 20 → fits a t (nth sheet n) ≡ true → Predicts a t n
 predicts_fits a t n k low high e =
     let p = nth sheet n in
-    let parts = and_parts (eqb p.left a) (begins null begin p.right t || (vanishes null p.right && follow a t)) e in (
+    let parts = and_parts (eqb p.left a) (begins null begin p.right t || (list_all null p.right && follow a t)) e in (
       p,
       numbered sheet n low high,
       eqb-true p.left a parts.0,
       ⊎_elim
           (λ b. inl ((begins_exact p.right t k).0 b))
-          (λ v. let both = and_parts (vanishes null p.right) (follow a t) v in inr ((vanishes_exact p.right).0 both.0, (follow_test a t).0 both.1))
-          (or_cases (begins null begin p.right t) (vanishes null p.right && follow a t) parts.1),
+          (λ v. let both = and_parts (list_all null p.right) (follow a t) v in inr ((vanishes_exact p.right).0 both.0, (follow_test a t).0 both.1))
+          (or_cases (begins null begin p.right t) (list_all null p.right && follow a t) parts.1),
     )
 
 -- what passes the test is an entry

@@ -29,9 +29,9 @@ pub(crate) struct Level {
     ghost ends: { Ends (reverse symbols.items) },
 }
 
-// Keeps so many symbols from the bottom, and lays these on top. They are few at both sides, so they are taken off and laid
-// one by one: `truncate` and `try_extend_from_slice` were tried, and took 342 instructions a lexeme on the longest mixed
-// sheet of bench/, where this takes 255.
+// Keeps so many symbols from the bottom, and lays these on top. Few are taken off and few are laid, so that goes one by
+// one: `truncate` and `try_extend_from_slice` were tried, and took 342 instructions a lexeme on the longest mixed sheet of
+// bench/ in place of 255.
 fn lay(symbols: &mut ArrayVec<u8, DEPTH>, below: usize, top: &[u8])
     requires { (below ≤ array_vec_len symbols.old) × (below + length top.now ≤ 3073) }
     ensures { symbols.new.items ≡ take below symbols.old.items ++ top.now }

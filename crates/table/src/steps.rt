@@ -53,7 +53,8 @@ static LEFT: [&[u8]; 14] = [
     &[23, 7, 25, 22],
 ];
 
-// What stands in a row and a column, counted from 0.
+// What stands in a row and a column, counted from 0. It is no generic function together with `cell` of the other table:
+// each contract compares its table with the definition, and so a wrong entry is refused here and not in a caller's proof.
 fn number(row: usize, column: usize) -> u8
     requires { (row < 10) × (column < 16) }
     ensures { result ≡ slice_index (slice_index_or step_rows row []) column }
@@ -81,7 +82,7 @@ pub(crate) fn comes_to(symbol: u8, kind: u32) -> Step
             Step::Rejected
         };
     }
-    match number(symbol as usize - 16, kind as usize) {
+    match number((symbol - NONTERMINAL) as usize, kind as usize) {
         0 => Step::Rejected,
         1 => Step::Vanishes,
         left => Step::Meets(left_of(left - 2)),

@@ -13,7 +13,7 @@ use parser::{Probing, Refused, Stepping, accepts};
 pub struct TableParser {
     present: Level,
     // What a mark holds, and whether there is one. An Option<Level> was tried: it writes all the places of a level at each
-    // mark, and took 511 instructions a lexeme on the longest mixed sheet of bench/, where this takes 342.
+    // mark, and took 511 instructions a lexeme on the longest mixed sheet of bench/ in place of 342.
     held: Level,
     marked: bool,
 }

@@ -1,11 +1,11 @@
 -- The sheet grammar's test of what is viable: a stack of symbols, after some kinds, by the table. Assumes nothing.
 use Rattle.std.proofs.Common.{◌≡◌, ℕ, zero, suc, ◌<◌, ◌≤◌, Bool, true, false, ◌&&◌, eqb, ltb, leb, List, [], ◌∷◌, ◌++◌, is_some, Some, None, Decides, Option, sym, refl, subst, arith}
 use mathlib.Core.Bool.{false≢true}
+use Rattle.std.specs.List.{list_all}
 use Rattle.std.proofs.lemmas.List.{append_assoc, append-nil}
 use Rattle.grammar.specs.Grammar.{IsKind, among, LanguageOf, start}
 use Rattle.grammar.specs.Sets.{nullables}
 use Rattle.grammar.specs.Sheet.{sheet}
-use Rattle.grammar.proofs.Closed.{vanishes}
 use Rattle.grammar.proofs.SheetSets.{kinds_derived, null, vanishes_exact}
 use Rattle.table.specs.Level.{remains}
 use Rattle.table.specs.Stack.{Ends, Follows, Never, SameFor}
@@ -51,7 +51,7 @@ viable? u k = is_some (stack_after (start ∷ []) (u ++ k ∷ []))
 -- every symbol of the stack is nullable
 abbrev pub empties : Option (List ℕ) → Bool
 empties None = false
-empties (Some y) = vanishes (λ s. among s nullables) y
+empties (Some y) = list_all (λ s. among s nullables) y
 
 abbrev pub complete? : List ℕ → Bool
 complete? u = empties (stack_after (start ∷ []) u)

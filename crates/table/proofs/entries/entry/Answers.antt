@@ -6,9 +6,6 @@ use Rattle.table.proofs.entries.entry.Goals as goal
 pub returns-then-not-matches : goal.returns-then-not-matches
 returns-then-not-matches c = entry_none c.args.symbol c.args.kind (λ a b d e. omega arith)
 
-pub returns-then-not-matches-2 : goal.returns-then-not-matches-2
-returns-then-not-matches-2 c = entry_none c.args.symbol c.args.kind (λ a b d e. omega arith)
-
 pub returns : goal.returns
 returns c =
     subst (Entry c.args.symbol c.args.kind) (sym c.cell.ensures)

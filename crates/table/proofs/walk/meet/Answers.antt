@@ -17,4 +17,3 @@ loop-symbol-preserved c =
 pub returns-in-Meets : goal.returns-in-Meets
 returns-in-Meets c =
     walk_finds _ _ c.loop-symbol.invariant c.in-Some.ensures.cases.0 c.in-Meets.left.now (omega arith, omega arith) c.in-Meets.ensures
-

@@ -15,15 +15,6 @@ returns-then-self-eq0 c =
     let found = rw c.deref.ensures.0 at c.in-Some.ensures in
     (met_viable found, c.if-self-eq0.true, alike_refl (means (reverse self.symbols.items) self.left absent))
 
-pub lay-requires : goal.lay-requires
-lay-requires c =
-    let found = rw c.deref.ensures.0 at c.in-Some.ensures in
-    let few = found.few in
-    let deeper = found.deeper in
-    let room = c.args.self.now.room in
-    let some = c.if-self-eq0.false in
-    (omega arith, omega arith)
-
 pub invariant_of-self : goal.invariant_of-self
 invariant_of-self c =
     let found = rw c.deref.ensures.0 at c.in-Some.ensures in

@@ -87,14 +87,7 @@ hollow stray = false
 hollow (run k n) = false
 
 not_hollow : (k : Class) (bs : List ℕ) → is_gap k ≡ false → hollow (front_by k bs) ≡ false
-not_hollow Blank bs e = e
-not_hollow LineEnd bs e = e
-not_hollow Letter bs e = refl
-not_hollow Digit bs e = refl
-not_hollow Apostrophe bs e = refl
-not_hollow Point bs e = refl
-not_hollow (Sign k) bs e = refl
-not_hollow Unreadable bs e = refl
+not_hollow k bs e = grind arith
 
 run_at : (i n : ℕ) (c : Cursor) (k : Kind) → c.offset ≡ i → (begins (item_of i n (judged c k n)) ≡ i) × (takes (item_of i n (judged c k n)) ≡ n)
 run_at i n c k e =

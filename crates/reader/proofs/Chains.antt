@@ -12,7 +12,6 @@ use Rattle.reader.specs.Laws.{Ordered, Taken, begins, takes}
 use Rattle.reader.specs.Places.{byte}
 use Rattle.reader.specs.Runs.{Front, fraction, front, front_by, fronts, gap, number_length, point_and, run, stray}
 use Rattle.reader.specs.declared.class.Class.{Class}
-use Rattle.reader.specs.declared.class.Class.TheVariants.{Blank, LineEnd, Letter, Digit, Apostrophe, Point, Sign, Unreadable}
 use Rattle.reader.specs.declared.cursor.Cursor.{Cursor}
 use Rattle.reader.proofs.Finds.{ends, solid}
 use Rattle.reader.proofs.Fronts.{fronts_le}
@@ -37,17 +36,7 @@ number_le bs = omega (arith, fronts_le in_digits bs, fraction_le (drop (fronts i
 
 -- what stands at the front is not longer than what is there
 front_le : (b : ℕ) (bs : List ℕ) → extent (front (b ∷ bs)) ≤ length (b ∷ bs)
-front_le b bs = go (class b)
-  where
-    go : (k : Class) → extent (front_by k (b ∷ bs)) ≤ length (b ∷ bs)
-    go Blank = omega arith
-    go LineEnd = omega arith
-    go Letter = fronts_le in_name (b ∷ bs)
-    go Digit = number_le (b ∷ bs)
-    go Apostrophe = omega arith
-    go Point = omega arith
-    go (Sign k) = omega arith
-    go Unreadable = omega arith
+front_le b bs = grind (arith, fronts_le in_name (b ∷ bs), number_le (b ∷ bs))
 
 pub item_within : (t : List ℕ) (i : ℕ) → i < length t → i + extent (front (drop i t)) ≤ length t
 item_within t i h =

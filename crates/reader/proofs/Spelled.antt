@@ -113,12 +113,9 @@ bounded_by b bs k m c e o s f g =
       kind = g ∙ ap (λ x. kind_by x (take m (b ∷ bs))) (sym e);
     }
 
-nil_not_cons : (x : ℕ) (xs : List ℕ) → [] ≡ x ∷ xs → ⊥
-nil_not_cons x xs e = omega (arith, ap length e)
-
 module _ (b : ℕ) (bs : List ℕ) (k : Kind) where
   name_bounded : (m x : ℕ) (xs : List ℕ) → m ≤ length (b ∷ bs) → take m (b ∷ bs) ≡ x ∷ xs → class x ≡ Letter → All in_name xs → k ≡ word_kind (take m (b ∷ bs)) → Bounded b bs k m
-  name_bounded zero x xs h e letter all kind = absurd (nil_not_cons x xs e)
+  name_bounded zero x xs h e letter all kind = cc
   name_bounded (suc m) x xs h e letter all kind =
       let same : b ≡ x = ap (λ l. byte l 0) e in
       let rest : take m bs ≡ xs = ap (drop 1) e in
@@ -130,7 +127,7 @@ module _ (b : ℕ) (bs : List ℕ) (k : Kind) where
   -- digits come first
   digits_first : (m : ℕ) (ds es : List ℕ) → take m (b ∷ bs) ≡ ds ++ es → Digits ds → (0 < m) × (class b ≡ Digit)
   digits_first m [] es e d = absurd (omega (arith, d.0))
-  digits_first zero (x ∷ ds) es e d = absurd (nil_not_cons x (ds ++ es) e)
+  digits_first zero (x ∷ ds) es e d = cc
   digits_first (suc m) (x ∷ ds) es e d = (omega arith, ap class (ap (λ l. byte l 0) e) ∙ digit_class (class x) d.1.0)
 
   whole_bounded : (m : ℕ) → m ≤ length (b ∷ bs) → Digits (take m (b ∷ bs)) → k ≡ Number → Bounded b bs k m

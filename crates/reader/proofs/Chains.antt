@@ -12,7 +12,6 @@ use Rattle.reader.specs.Laws.{Ordered, Taken, begins, takes}
 use Rattle.reader.specs.Places.{byte}
 use Rattle.reader.specs.Runs.{Front, fraction, front, front_by, fronts, gap, number_length, point_and, run, stray}
 use Rattle.reader.specs.declared.class.Class.{Class}
-use Rattle.reader.specs.declared.class.Class.TheVariants.{Blank, LineEnd, Letter, Digit, Apostrophe, Point, Sign, Unreadable}
 use Rattle.reader.specs.declared.cursor.Cursor.{Cursor}
 use Rattle.reader.proofs.Finds.{ends, solid}
 use Rattle.reader.proofs.Fronts.{fronts_le}
@@ -37,17 +36,7 @@ number_le bs = omega (arith, fronts_le in_digits bs, fraction_le (drop (fronts i
 
 -- what stands at the front is not longer than what is there
 front_le : (b : ℕ) (bs : List ℕ) → extent (front (b ∷ bs)) ≤ length (b ∷ bs)
-front_le b bs = go (class b)
-  where
-    go : (k : Class) → extent (front_by k (b ∷ bs)) ≤ length (b ∷ bs)
-    go Blank = omega arith
-    go LineEnd = omega arith
-    go Letter = fronts_le in_name (b ∷ bs)
-    go Digit = number_le (b ∷ bs)
-    go Apostrophe = omega arith
-    go Point = omega arith
-    go (Sign k) = omega arith
-    go Unreadable = omega arith
+front_le b bs = grind (arith, fronts_le in_name (b ∷ bs), number_le (b ∷ bs))
 
 pub item_within : (t : List ℕ) (i : ℕ) → i < length t → i + extent (front (drop i t)) ≤ length t
 item_within t i h =
@@ -87,14 +76,7 @@ hollow stray = false
 hollow (run k n) = false
 
 not_hollow : (k : Class) (bs : List ℕ) → is_gap k ≡ false → hollow (front_by k bs) ≡ false
-not_hollow Blank bs e = e
-not_hollow LineEnd bs e = e
-not_hollow Letter bs e = refl
-not_hollow Digit bs e = refl
-not_hollow Apostrophe bs e = refl
-not_hollow Point bs e = refl
-not_hollow (Sign k) bs e = refl
-not_hollow Unreadable bs e = refl
+not_hollow k bs e = grind arith
 
 run_at : (i n : ℕ) (c : Cursor) (k : Kind) → c.offset ≡ i → (begins (item_of i n (judged c k n)) ≡ i) × (takes (item_of i n (judged c k n)) ≡ n)
 run_at i n c k e =

@@ -1,7 +1,7 @@
 -- No byte of an item is a blank or a line end. Assumes nothing.
 use Rattle.std.proofs.Common.{◌≡◌, ℕ, zero, suc, ◌-◌, ◌<◌, ◌≤◌, Bool, true, false, cond, eqb, List, [], ◌∷◌, drop, sym, refl, ap, ◌∙◌, ⊎_elim, arith}
 use Rattle.std.proofs.lemmas.List.{get_or-drop}
-use Rattle.std.proofs.lemmas.Bool.{false≢true, true≢false, cases_lt, cond-true, eqb-true}
+use Rattle.std.proofs.lemmas.Bool.{true≢false, cases_lt, eqb-true}
 use Rattle.reader.specs.Classes.{class, in_digits, in_name, is_gap}
 use Rattle.reader.specs.Items.{extent}
 use Rattle.reader.specs.Places.{byte}
@@ -15,24 +15,10 @@ abbrev pub Black : List ℕ → ℕ → Type 0
 Black bs j = is_gap (class (byte bs j)) ≡ false
 
 name_black : (c : Class) → in_name c ≡ true → is_gap c ≡ false
-name_black Blank e = absurd (false≢true e)
-name_black LineEnd e = absurd (false≢true e)
-name_black Letter e = refl
-name_black Digit e = refl
-name_black Apostrophe e = refl
-name_black Point e = refl
-name_black (Sign k) e = refl
-name_black Unreadable e = refl
+name_black c e = grind arith
 
 digit_black : (c : Class) → in_digits c ≡ true → is_gap c ≡ false
-digit_black Blank e = absurd (false≢true e)
-digit_black LineEnd e = absurd (false≢true e)
-digit_black Letter e = refl
-digit_black Digit e = refl
-digit_black Apostrophe e = refl
-digit_black Point e = refl
-digit_black (Sign k) e = refl
-digit_black Unreadable e = refl
+digit_black c e = grind arith
 
 digits_black : (bs : List ℕ) (j : ℕ) → j < fronts in_digits bs → Black bs j
 digits_black bs j h = digit_black _ (fronts_pass in_digits bs j h)
@@ -65,7 +51,7 @@ number_black bs j h = ⊎_elim (digits_black bs j) past (cases_lt j (fronts in_d
 
 -- a byte that passes is counted
 fronts_some : (p : Class → Bool) (b : ℕ) (bs : List ℕ) → p (class b) ≡ true → 0 < fronts p (b ∷ bs)
-fronts_some p b bs e = let is = cond-true (p (class b)) (suc (fronts p bs)) 0 e in omega arith
+fronts_some p b bs e = grind arith
 
 -- what stands at the front takes some bytes, none of them a blank or a line end
 pub record SolidFront (bs : List ℕ) (n : ℕ) : Type 0 where

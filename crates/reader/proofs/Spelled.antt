@@ -1,7 +1,7 @@
 -- The run at the front is the longest lexeme there. Assumes nothing.
 use Rattle.std.proofs.Common.{◌≡◌, ℕ, zero, suc, ◌+◌, ◌<◌, ◌≤◌, Bool, true, false, cond, eqb, List, [], ◌∷◌, ◌++◌, length, take, drop, sym, refl, ap, ◌∙◌, subst, append_assoc, arith, length-append, take-append-drop, take-add}
 use Rattle.std.proofs.lemmas.List.{append-nil, drop_at, length-take-le}
-use Rattle.std.proofs.lemmas.Bool.{cond-true, cond-false, eqb-true, false≢true, true≢false}
+use Rattle.std.proofs.lemmas.Bool.{cond-true, cond-false, eqb-true, false≢true}
 use Rattle.sheet.specs.declared.lexeme.Kind.{Kind}
 use Rattle.sheet.specs.declared.lexeme.Kind.TheVariants.{Name, Number}
 use Rattle.reader.specs.Classes.{class, in_digits, in_name, is_gap}
@@ -45,24 +45,10 @@ kind_by (Sign k) w = k
 kind_by Unreadable w = Name
 
 pub front_opening : (c : Class) (bs : List ℕ) → opening c ≡ true → front_by c bs ≡ run (kind_by c (take (reach c bs) bs)) (reach c bs)
-front_opening Blank bs e = absurd (false≢true e)
-front_opening LineEnd bs e = absurd (false≢true e)
-front_opening Letter bs e = refl
-front_opening Digit bs e = refl
-front_opening Apostrophe bs e = absurd (false≢true e)
-front_opening Point bs e = absurd (false≢true e)
-front_opening (Sign k) bs e = refl
-front_opening Unreadable bs e = absurd (false≢true e)
+front_opening c bs e = grind arith
 
 pub front_stray : (c : Class) (bs : List ℕ) → is_gap c ≡ false → opening c ≡ false → front_by c bs ≡ stray
-front_stray Blank bs g e = absurd (true≢false g)
-front_stray LineEnd bs g e = absurd (true≢false g)
-front_stray Letter bs g e = absurd (true≢false e)
-front_stray Digit bs g e = absurd (true≢false e)
-front_stray Apostrophe bs g e = refl
-front_stray Point bs g e = refl
-front_stray (Sign k) bs g e = absurd (true≢false e)
-front_stray Unreadable bs g e = refl
+front_stray c bs g e = grind arith
 
 module _ (p : Class → Bool) where
   -- the bytes that pass at the front all pass
@@ -108,14 +94,7 @@ pointed_reach ds es tail d e =
 
 -- the class of a digit is that of digits
 digit_class : (c : Class) → in_digits c ≡ true → c ≡ Digit
-digit_class Blank e = absurd (false≢true e)
-digit_class LineEnd e = absurd (false≢true e)
-digit_class Letter e = absurd (false≢true e)
-digit_class Digit e = refl
-digit_class Apostrophe e = absurd (false≢true e)
-digit_class Point e = absurd (false≢true e)
-digit_class (Sign k) e = absurd (false≢true e)
-digit_class Unreadable e = absurd (false≢true e)
+digit_class c e = grind arith
 
 -- what is spelled at the front of some bytes begins with their first byte, is of its kind and reaches no further
 pub record Bounded (b : ℕ) (bs : List ℕ) (k : Kind) (m : ℕ) : Type 0 where
@@ -134,12 +113,9 @@ bounded_by b bs k m c e o s f g =
       kind = g ∙ ap (λ x. kind_by x (take m (b ∷ bs))) (sym e);
     }
 
-nil_not_cons : (x : ℕ) (xs : List ℕ) → [] ≡ x ∷ xs → ⊥
-nil_not_cons x xs e = omega (arith, ap length e)
-
 module _ (b : ℕ) (bs : List ℕ) (k : Kind) where
   name_bounded : (m x : ℕ) (xs : List ℕ) → m ≤ length (b ∷ bs) → take m (b ∷ bs) ≡ x ∷ xs → class x ≡ Letter → All in_name xs → k ≡ word_kind (take m (b ∷ bs)) → Bounded b bs k m
-  name_bounded zero x xs h e letter all kind = absurd (nil_not_cons x xs e)
+  name_bounded zero x xs h e letter all kind = cc
   name_bounded (suc m) x xs h e letter all kind =
       let same : b ≡ x = ap (λ l. byte l 0) e in
       let rest : take m bs ≡ xs = ap (drop 1) e in
@@ -151,7 +127,7 @@ module _ (b : ℕ) (bs : List ℕ) (k : Kind) where
   -- digits come first
   digits_first : (m : ℕ) (ds es : List ℕ) → take m (b ∷ bs) ≡ ds ++ es → Digits ds → (0 < m) × (class b ≡ Digit)
   digits_first m [] es e d = absurd (omega (arith, d.0))
-  digits_first zero (x ∷ ds) es e d = absurd (nil_not_cons x (ds ++ es) e)
+  digits_first zero (x ∷ ds) es e d = cc
   digits_first (suc m) (x ∷ ds) es e d = (omega arith, ap class (ap (λ l. byte l 0) e) ∙ digit_class (class x) d.1.0)
 
   whole_bounded : (m : ℕ) → m ≤ length (b ∷ bs) → Digits (take m (b ∷ bs)) → k ≡ Number → Bounded b bs k m

@@ -1,7 +1,7 @@
 -- One step of the reader: what a byte leaves of the items, and where it leads. Assumes nothing.
 use Rattle.std.proofs.Common.{◌≡◌, ℕ, zero, suc, ◌+◌, ◌-◌, ◌<◌, ◌≤◌, Bool, true, false, cond, Some, List, [], ◌∷◌, ◌++◌, length, drop, sym, refl, ap, ◌∙◌, subst, add-zero, add-suc, suc-add, add-one, arith}
 use Rattle.std.proofs.lemmas.List.{drop_more, drop-drop}
-use Rattle.std.proofs.lemmas.Bool.{false≢true, or_right, cond-true, cond-false}
+use Rattle.std.proofs.lemmas.Bool.{or_right, cond-true, cond-false}
 use Rattle.reader.specs.Classes.{class, is_gap, blank, line_end}
 use Rattle.reader.specs.Cursors.{Placed}
 use Rattle.reader.specs.Items.{here, extent, items, items_from}
@@ -10,17 +10,10 @@ use Rattle.reader.specs.Runs.{Front, front, front_by, gap}
 use Rattle.reader.specs.declared.cursor.Cursor.{Cursor}
 use Rattle.reader.proofs.Places.{carriage_return, first_byte, line_end_inside, placed_line, placed_crlf}
 use Rattle.reader.specs.declared.class.Class.{Class}
-use Rattle.reader.specs.declared.class.Class.TheVariants.{Blank, LineEnd, Letter, Digit, Apostrophe, Point, Sign, Unreadable}
+use Rattle.reader.specs.declared.class.Class.TheVariants.{LineEnd}
 
 gap_front : (k : Class) (bs : List ℕ) → is_gap k ≡ true → front_by k bs ≡ gap
-gap_front Blank bs e = refl
-gap_front LineEnd bs e = refl
-gap_front Letter bs e = absurd (false≢true e)
-gap_front Digit bs e = absurd (false≢true e)
-gap_front Apostrophe bs e = absurd (false≢true e)
-gap_front Point bs e = absurd (false≢true e)
-gap_front (Sign k) bs e = absurd (false≢true e)
-gap_front Unreadable bs e = absurd (false≢true e)
+gap_front k bs e = grind arith
 
 -- the byte at an offset comes first of what is left
 pub items_at : (t : List ℕ) (i : ℕ) → i < length t → items t i ≡ items_from t 0 i (byte t i ∷ drop (i + 1) t)

@@ -81,17 +81,9 @@ static CLASSES: [Class; 256] = [
     Unreadable, Unreadable, Unreadable, Unreadable, Unreadable, Unreadable, Unreadable, Unreadable,
 ];
 
-// What stands in the table, whose entries are counted from 0.
-fn entry(index: usize) -> Class
-    requires { index < 256 }
-    ensures { result ≡ class index }
-{
-    CLASSES[index]
-}
-
 // The class of a byte.
 pub fn class_of(byte: u8) -> Class
     ensures { result ≡ class byte }
 {
-    entry(byte as usize)
+    CLASSES[byte as usize]
 }

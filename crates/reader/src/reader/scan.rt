@@ -31,13 +31,10 @@ impl<'a> Reader<'a> {
         ensures stops { NoGap (text_of self.old) (offset_of self.new) }
         ensures onward { offset_of self.old ≤ offset_of self.new }
     {
-        while let [byte, ..] = &self.text[self.here.offset..] {
+        while let rest @ [byte, ..] = &self.text[self.here.offset..] {
             match class_of(*byte) {
                 Class::Blank => self.here.pass_blank(*byte),
-                Class::LineEnd => {
-                    let bytes = line_end_length(&self.text[self.here.offset..]);
-                    self.here.pass_line_end(bytes);
-                }
+                Class::LineEnd => self.here.pass_line_end(line_end_length(rest)),
                 _ => return,
             }
         }

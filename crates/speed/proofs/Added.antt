@@ -18,7 +18,11 @@ use Rattle.speed.specs.Sums.{stop_weight, weight}
 
 -- what lexemes add, and what is left of a text from an offset on
 abbrev pub of_lexemes : List Lexeme → ℕ
-of_lexemes ls = sum_by weight (map Ok ls)
+of_lexemes ls = sum_by (λ l. weight (Ok l)) ls
+
+told_lexemes : (ls : List Lexeme) → of_lexemes ls ≡ sum_by weight (map Ok ls)
+told_lexemes [] = refl
+told_lexemes (l ∷ ls) = sum_by-cons (λ x. weight (Ok x)) l ls ∙ ap (λ n. weight (Ok l) + n) (told_lexemes ls) ∙ sym (sum_by-cons weight (Ok l) (map Ok ls))
 
 abbrev pub of_rest : List ℕ → ℕ → ℕ
 of_rest t i = sum_by weight (map tell (items t i))
@@ -26,18 +30,13 @@ of_rest t i = sum_by weight (map tell (items t i))
 abbrev pub of_stop : Option Stop → ℕ
 of_stop s = sum_by weight (tell_stop s)
 
--- a lexeme that is taken is added
-pub one_taken : (sum w : ℕ) (l : Lexeme) (ls all : List Lexeme) → all ≡ l ∷ ls → w ≡ weight (Ok l) → ((sum + w) % 2 ^ 64 + of_lexemes ls) % 2 ^ 64 ≡ (sum + of_lexemes all) % 2 ^ 64
-one_taken sum w l ls all is e =
-    mod-add-mod (sum + w) (2 ^ 64) (of_lexemes ls)
-    ∙ ap (λ n. n % 2 ^ 64) (add_assoc sum w (of_lexemes ls) ∙ ap (λ n. sum + n) (ap (λ n. n + of_lexemes ls) e ∙ sym (sum_by-cons weight (Ok l) (map Ok ls)) ∙ sym (ap of_lexemes is)))
-
 -- a reading divides what is left into what it puts, what it stops at, and what is left then
 divides : (r : Reader) (q : Queue Lexeme) → of_lexemes (reads r q).put + of_stop (reads r q).stop + of_rest (text_of r) (reads r q).next ≡ of_rest (text_of r) (offset_of r)
 divides r q =
     let t = text_of r in
     let whole = (piece t (chain t (offset_of r) r.within) (room q)).whole in
-    sym (ap (λ n. n + of_rest t (reads r q).next) (sum_by-append weight (map Ok (reads r q).put) (tell_stop (reads r q).stop)))
+    ap (λ n. n + of_stop (reads r q).stop + of_rest t (reads r q).next) (told_lexemes (reads r q).put)
+    ∙ sym (ap (λ n. n + of_rest t (reads r q).next) (sum_by-append weight (map Ok (reads r q).put) (tell_stop (reads r q).stop)))
     ∙ sym (sum_by-append weight (tells (reads r q)) (map tell (items t (reads r q).next))) ∙ ap (sum_by weight) whole
 
 -- a number that is all that was to be added

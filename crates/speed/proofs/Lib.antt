@@ -1,4 +1,2 @@
 pub mod Added
-pub mod Counting
-pub mod Feeds
 pub mod Resolving

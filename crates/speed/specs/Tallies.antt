@@ -1,42 +1,30 @@
--- Adding up while lexemes are fed, from where a resolver stands to where it then stands. Assumes nothing.
-use Rattle.std.specs.Prelude.{◌≡◌, ℕ, ◌+◌, ◌%◌, ◌^◌, ◌<◌, Bool, true, false, cond, List, [], ◌∷◌, ◌++◌, Result}
+-- Adding up the tokens and the faults of a sheet as they come. Assumes nothing.
+use Rattle.std.specs.Prelude.{◌≡◌, ℕ, ◌+◌, ◌%◌, ◌^◌, ◌<◌, List, ◌++◌}
+use Rattle.std.proofs.Common.{sym, ap, ◌∙◌, add_assoc, arith}
+use Rattle.std.proofs.lemmas.List.Sums.{sum_by-append}
+use native.Mathlib.Nat.{mod-add-mod}
 use Rattle.sheet.specs.declared.fault.Fault.{Fault}
-use Rattle.sheet.specs.declared.lexeme.Lexeme.{Lexeme}
-use Rattle.sheet.specs.declared.lexeme.Place.{Place}
 use Rattle.sheet.specs.declared.lexeme.Token.{Token}
-use Rattle.layout.specs.Calling.{Stand}
-use Rattle.layout.specs.Service.{State}
-use Rattle.whole.specs.Feeding.{Ended, Fed}
-use Rattle.speed.specs.Resolved.{all_faults, all_tokens, worth}
+use Rattle.whole.specs.Keeping.{Keeping}
+use Rattle.speed.specs.Resolved.{worth}
+use Rattle.speed.specs.Sums.{fault_weight, token_weight}
 use Rattle.speed.specs.declared.resolve.Tally.{Tally}
 
--- whether there is a fault
-abbrev pub some : List Fault → Bool
-some [] = false
-some (f ∷ fs) = true
-
 -- tokens and faults were added
-pub record Counted (a b : Tally) (ts : List Token) (fs : List Fault) : Type 0 where
+pub record Counted (a : Tally) (ts : List Token) (fs : List Fault) (b : Tally) : Type 0 where
   pub sum : a.sum < 2 ^ 64 → b.sum ≡ (a.sum + worth ts fs) % 2 ^ 64
-  pub refused : b.refused ≡ cond a.refused true (some fs)
 
--- some of what a text tells was fed, and what came of it was added
-pub record Adds (x : Stand) (t : ℕ) (told : List (Result Lexeme Fault)) (a b : Tally) (y : Stand) : Type 0 where
-  pub tokens : List Token
-  pub faults : List Fault
-  pub fed : Fed x t told tokens faults y
-  pub counted : Counted a b tokens faults
+-- a sum and then another
+sums_on : (a b c x y z : ℕ) → b ≡ (a + x) % 2 ^ 64 → c ≡ (b + y) % 2 ^ 64 → z ≡ x + y → c ≡ (a + z) % 2 ^ 64
+sums_on a b c x y z p q e = q ∙ ap (λ n. (n + y) % 2 ^ 64) p ∙ mod-add-mod (a + x) (2 ^ 64) y ∙ ap (λ n. n % 2 ^ 64) (add_assoc a x y ∙ ap (λ n. a + n) (sym e))
 
--- the end of a sheet that had tokens and faults, of which it adds some
-pub record EndsWith (x : Stand) (t : ℕ) (p : Place) (ts us : List Token) (fs gs : List Fault) (s' : State) : Type 0 where
-  pub outcome : Result (List Token) (List Fault)
-  pub ended : Ended x t p ts fs outcome s'
-  pub tokens : all_tokens ts outcome ≡ ts ++ us
-  pub faults : all_faults fs outcome ≡ fs ++ gs
-
--- the end of a sheet, whatever tokens and faults it had, if only it is told whether there were faults
-pub record Closes (x : Stand) (t : ℕ) (p : Place) (a : Tally) (r : ℕ) (s' : State) : Type 0 where
-  pub tokens : List Token
-  pub faults : List Fault
-  pub ends : (ts : List Token) (fs : List Fault) → a.refused ≡ some fs → EndsWith x t p ts tokens fs faults s'
-  pub sum : a.sum < 2 ^ 64 → r ≡ (a.sum + worth tokens faults) % 2 ^ 64
+pub counted_keeping : Keeping Counted
+counted_keeping =
+    record {
+      none = λ a. record { sum = λ fits. omega arith };
+      on = λ a b c ts us fs gs x y. record {
+        sum = λ fits.
+            let p = x.sum fits in
+            sums_on a.sum b.sum c.sum (worth ts fs) (worth us gs) (worth (ts ++ us) (fs ++ gs)) p (y.sum (omega (arith, p))) (omega (arith, sum_by-append token_weight ts us, sum_by-append fault_weight fs gs));
+      };
+    }

@@ -6,6 +6,7 @@
 
 mod read;
 mod resolve;
+mod weighed;
 
 pub use read::speed_read;
 pub use resolve::speed_resolve;

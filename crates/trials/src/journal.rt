@@ -9,12 +9,7 @@ use std::fmt::Write;
 fn add_count(out: &mut String, tokens: &[Token], from: usize, count: usize) -> fmt::Result {
     write!(out, "wrote {count}")?;
     for token in tokens.iter().skip(from).take(count) {
-        let kind = token.kind;
-        let line = token.line;
-        let column = token.column;
-        let offset = token.offset;
-        let length = token.length;
-        write!(out, " | {kind} {line} {column} {offset} {length}")?;
+        write!(out, " | {token}")?;
     }
     writeln!(out)?;
     Ok(())

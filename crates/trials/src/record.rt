@@ -6,11 +6,10 @@ use std::alloc::Global;
 
 // The numbers of a line, with one space between.
 fn numbers(heap: Global, words: &str) -> anyhow::Result<Vec<u64>> {
-    let mut all = Vec::new(heap);
-    for word in words.split(' ') {
-        all.push(word.parse::<u64>()?)?;
-    }
-    Ok(all)
+    words
+        .split(' ')
+        .map(|word| -> anyhow::Result<u64> { Ok(word.parse()?) })
+        .try_collect(heap)
 }
 
 // A flag is 1 or 0.
@@ -72,13 +71,10 @@ pub fn call(heap: Global, line: &str) -> anyhow::Result<Call> {
         return Err(anyhow!("no such call"));
     };
     let all = numbers(heap, rest)?;
-    if word == "feed" {
-        feed(&all)
-    } else if word == "finish" {
-        finish(&all)
-    } else if word == "give-up" {
-        give_up(&all)
-    } else {
-        Err(anyhow!("no such call"))
+    match word {
+        "feed" => feed(&all),
+        "finish" => finish(&all),
+        "give-up" => give_up(&all),
+        _ => Err(anyhow!("no such call")),
     }
 }

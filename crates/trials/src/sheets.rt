@@ -13,12 +13,7 @@ use whole::{Failure, listing, resolve};
 fn line_end(bytes: &[u8]) -> Option<usize>
     ensures { IfSome result (λ i. i < length bytes.now) }
 {
-    for (i, byte) in bytes.iter().enumerate() {
-        if *byte == b'\n' {
-            return Some(i);
-        }
-    }
-    None
+    bytes.iter().position(|byte| *byte == b'\n')
 }
 
 // How many bytes the sheet has that a line announces.

@@ -82,7 +82,7 @@ pub(crate) fn comes_to(symbol: u8, kind: u32) -> Step
             Step::Rejected
         };
     }
-    match number((symbol - NONTERMINAL) as usize, kind as usize) {
+    match number(symbol as usize - 16, kind as usize) {
         0 => Step::Rejected,
         1 => Step::Vanishes,
         left => Step::Meets(left_of(left - 2)),

@@ -3,7 +3,7 @@ ghost use Rattle.std.specs.Prelude.{◌≡◌, ◌<◌, ◌≤◌, Bool, false, 
 ghost use Rattle.reader.specs.Runs.{fraction, front, fronts, number_length, word_kind};
 ghost use Rattle.reader.specs.Classes.{class, in_digits, in_name, is_gap};
 ghost use Rattle.reader.specs.declared.class.Class.{Class};
-ghost use Rattle.reader.specs.Parts.{front_of, run_length};
+ghost use Rattle.reader.specs.Parts.{AnswersAs, front_of, run_length};
 ghost use Rattle.reader.specs.Places.{byte};
 
 use crate::class::{Class, class_of};
@@ -26,7 +26,7 @@ fn in_digits(class: Class) -> bool
 // How many bytes at the front are of the classes that a test passes.
 fn front_length<F: Fn(Class) -> bool>(bytes: &[u8], passes: F) -> usize
     requires { F.IsAlwaysCallable passes }
-    ensures value { (p : Class → Bool) → ((c : Class) (r : Bool) → F.post passes c r → r ≡ p c) → result ≡ fronts p bytes.now }
+    ensures value { (p : Class → Bool) → AnswersAs p (F.post passes) → result ≡ fronts p bytes.now }
     ensures within { result ≤ length bytes.now }
 {
     bytes

@@ -68,6 +68,7 @@ impl<'a> Reader<'a> {
             let Some(found) = self.find() else {
                 return Ok(count);
             };
+            // A lexeme that finds no free place is left to the next reading, and a fault is not.
             if let Ok(lexeme) = found.what {
                 queue.put(lexeme)?;
             }

@@ -2,7 +2,6 @@
 use Rattle.std.proofs.Common.{◌≡◌, ℕ, ◌+◌, ◌^◌, ◌<◌, ◌≤◌, true, false, List, [], ◌++◌, length, is_some, Some, None, Ok, Err, Option, sym, refl, ap, ◌∙◌, subst, arith}
 use Rattle.std.proofs.lemmas.List.{append-nil}
 use Rattle.std.proofs.lemmas.Bool.{false≢true, true≢false}
-use Rattle.std.specs.Option.{SomeIff}
 use Rattle.parser.specs.Meaning.{Alike, Meaning, started}
 use Rattle.parser.proofs.Meanings.{same_trans}
 use Rattle.sheet.specs.declared.fault.Fault.{Fault}
@@ -33,18 +32,13 @@ no_number : (o : Option ℕ) → is_some o ≡ false → o ≡ None
 no_number None e = refl
 no_number (Some n) e = absurd (true≢false e)
 
--- the number after another, or none past the last
-pub next_number : (o : Option ℕ) (n : ℕ) → n < 2 ^ 64 → SomeIff o (n + 1 < 2 ^ 64) (n + 1) → next_of o ≡ n + 1
-next_number None n low told = omega (arith, told)
-next_number (Some k) n low told = told.1
-
 -- tokens that are none
 none_behind : (q : List Token) → q ≡ q ++ []
 none_behind q = sym (append-nil q)
 
 -- a lexeme is fed where the parser and the sheet are as before
-pub feeds_from : (m n last : Meaning) (s z s' : State) (t : ℕ) (l : Lexeme) (free : ℕ) (a : Answer) (q q' : List Token) → Took [] m n → z ≡ s → Writes (over n z) (feed t l free) a q q' (over last s') → Writes (over m s) (feed t l free) a q q' (over last s')
-feeds_from m n last s z s' t l free a q q' same at x =
+pub feeds_from : {m n last : Meaning} {s z s' : State} {t : ℕ} {l : Lexeme} {free : ℕ} {a : Answer} {q q' : List Token} → Took [] m n → z ≡ s → Writes (over n z) (feed t l free) a q q' (over last s') → Writes (over m s) (feed t l free) a q q' (over last s')
+feeds_from {m} {n} {z = z} {t = t} {l} {free} {a} same at x =
     let c = x.calls in
     let all : n.left ≡ m.left = omega (arith, same.left) in
     record {
@@ -64,19 +58,21 @@ feeds_from m n last s z s' t l free a q q' same at x =
       };
     }
 
-module _ {P : Type 0} (m : Meaning) (r : Resolver P) where
-  pub begins_open : (f : Fault) → is_some r.sheet ≡ true → f ≡ fault (standing r) 0 0 SheetOpen → Calls (over m (standing r)) begin (refused f) [] (over m (standing r))
-  begins_open f e is =
-      subst (λ (x : Fault). Calls (over m (standing r)) begin (refused x) [] (over m (standing r))) (sym is)
-      (record { left = standing r; does = begin_open (some_number r.sheet e).1; state = refl; parser = took_none m })
+module _ {P : Type 0} (r : Resolver P) {m : Meaning} where
+  pub begins_open : {f : Fault} → is_some r.sheet ≡ true → f ≡ fault (standing r) 0 0 SheetOpen → Calls (over m (standing r)) begin (refused f) [] (over m (standing r))
+  begins_open e is = rw is (record { left = standing r; does = begin_open (some_number r.sheet e).1; state = refl; parser = took_none m })
 
-  pub begins_spent : (f : Fault) → is_some r.sheet ≡ false → r.next ≡ None → f ≡ fault (standing r) 0 0 NumbersSpent → Calls (over m (standing r)) begin (refused f) [] (over m (standing r))
-  begins_spent f e none is =
-      subst (λ (x : Fault). Calls (over m (standing r)) begin (refused x) [] (over m (standing r))) (sym is)
-      (record { left = standing r; does = begin_spent (no_number r.sheet e) (omega (arith, ap next_of none)); state = refl; parser = took_none m })
+  pub gives_up_wrong : {f : Fault} {t : ℕ} → (r.sheet ≡ Some t → ⊥) → f ≡ fault (standing r) 0 0 WrongTicket → Calls (over m (standing r)) (give_up t) (refused f) [] (over m (standing r))
+  gives_up_wrong n is = rw is (record { left = standing r; does = give_up_fails n; state = refl; parser = took_none m })
 
-  pub begins_new : (n : Meaning) (s' : State) (number : ℕ) → is_some r.sheet ≡ false → r.next ≡ Some number → number < 2 ^ 64 → s' ≡ record { sheet = Some number; next = number + 1; contexts = []; before = Nothing; written = [] } → Alike n (started m) → Calls (over m (standing r)) begin (ticket number) [] (over n s')
-  begins_new n s' number e next low is so =
+  pub gives_up_open : {s' : State} {t : ℕ} → r.sheet ≡ Some t → s' ≡ shut (standing r) → Calls (over m (standing r)) (give_up t) closed [] (over m s')
+  gives_up_open e is = record { left = shut (standing r); does = gives_up e; state = is; parser = took_none m }
+
+  pub begins_spent : {f : Fault} → is_some r.sheet ≡ false → r.next ≡ None → f ≡ fault (standing r) 0 0 NumbersSpent → Calls (over m (standing r)) begin (refused f) [] (over m (standing r))
+  begins_spent e none is = rw is (record { left = standing r; does = begin_spent {s = standing r} (no_number r.sheet e) (omega (arith, ap next_of none)); state = refl; parser = took_none m })
+
+  pub begins_new : {n : Meaning} {s' : State} {number : ℕ} → is_some r.sheet ≡ false → r.next ≡ Some number → number < 2 ^ 64 → s' ≡ record { sheet = Some number; next = number + 1; contexts = []; before = Nothing; written = [] } → Alike n (started m) → Calls (over m (standing r)) begin (ticket number) [] (over n s')
+  begins_new {n} {s'} {number} e next low is so =
       let is-next : next_of r.next ≡ number = ap next_of next in
       subst (λ k. Calls (over m (standing r)) begin (ticket k) [] (over n s')) is-next
       (record {
@@ -86,42 +82,34 @@ module _ {P : Type 0} (m : Meaning) (r : Resolver P) where
         parser = record { language = so.language; reach = so.reach; remainder = so.remainder; left = omega (arith, so.left) };
       })
 
-  pub gives_up_wrong : (f : Fault) (t : ℕ) → (r.sheet ≡ Some t → ⊥) → f ≡ fault (standing r) 0 0 WrongTicket → Calls (over m (standing r)) (give_up t) (refused f) [] (over m (standing r))
-  gives_up_wrong f t n is =
-      subst (λ (x : Fault). Calls (over m (standing r)) (give_up t) (refused x) [] (over m (standing r))) (sym is)
-      (record { left = standing r; does = give_up_fails n; state = refl; parser = took_none m })
+module _ {P : Type 0} (r : Resolver P) {m n : Meaning} {s' : State} {t free : ℕ} where
+  -- all that is accepted has a place
+  pub fed_room : {l : Lexeme} {d : Draft} → Fed (over m (standing r)) t l free (over n s') (Ok d) → length (drafted_tokens (lexeme l) d) ≤ free
+  fed_room (Fed.accepted x e b run enough tokens state took) = omega (arith, ap length tokens)
 
-  pub gives_up_open : (s' : State) (t : ℕ) → r.sheet ≡ Some t → s' ≡ shut (standing r) → Calls (over m (standing r)) (give_up t) closed [] (over m s')
-  gives_up_open s' t e is = record { left = shut (standing r); does = gives_up e; state = is; parser = took_none m }
+  pub finished_room : {p : Place} {d : Draft} → Finished (over m (standing r)) t p free (over n s') (Ok d) → length (drafted_tokens (ending p) d) ≤ free
+  finished_room (Finished.accepted x e run whole enough tokens state took) = omega (arith, ap length tokens)
 
-  module _ (n : Meaning) (s' : State) (t free : ℕ) where
-    -- all that is accepted has a place
-    pub fed_room : (l : Lexeme) (d : Draft) → Fed (over m (standing r)) t l free (over n s') (Ok d) → length (drafted_tokens (lexeme l) d) ≤ free
-    fed_room l d (Fed.accepted x e b run enough tokens state took) = omega (arith, ap length tokens)
+  -- a lexeme was accepted
+  pub fed_writes : {l : Lexeme} {d : Draft} {k : ℕ} {q q' : List Token} → Fed (over m (standing r)) t l free (over n s') (Ok d) → q' ≡ q ++ drafted_tokens (lexeme l) d → k ≡ length (drafted_tokens (lexeme l) d) → Writes (over m (standing r)) (feed t l free) (count k) q q' (over n s')
+  fed_writes {l} {q = q} {q'} (Fed.accepted x e b run enough tokens state took) list is =
+      subst (λ j. Writes (over m (standing r)) (feed t l free) (count j) q q' (over n s')) (ap length tokens ∙ sym is)
+      (record { tokens = x.tokens; list = list ∙ ap (λ ts. q ++ ts) (sym tokens); calls = record { left = _; does = feeds e b run enough; state = state; parser = took } })
 
-    pub finished_room : (p : Place) (d : Draft) → Finished (over m (standing r)) t p free (over n s') (Ok d) → length (drafted_tokens (ending p) d) ≤ free
-    finished_room p d (Finished.accepted x e run whole enough tokens state took) = omega (arith, ap length tokens)
+  -- or not
+  pub fed_denied : {l : Lexeme} {why : Reason} {f : Fault} {q : List Token} → Fed (over m (standing r)) t l free (over n s') (Err why) → f ≡ fault s' l.line l.column why → Writes (over m (standing r)) (feed t l free) (refused f) q q (over n s')
+  fed_denied {l} {why} {q = q} (Fed.denied fails state took) is =
+      subst (λ (x : Fault). Writes (over m (standing r)) (feed t l free) (refused x) q q (over n s')) (sym (is ∙ ap (λ (z : State). fault z l.line l.column why) state))
+      (record { tokens = []; list = none_behind q; calls = record { left = standing r; does = feed_fails fails; state = state; parser = took } })
 
-    -- a lexeme was accepted
-    pub fed_writes : (l : Lexeme) (d : Draft) (k : ℕ) (q q' : List Token) → Fed (over m (standing r)) t l free (over n s') (Ok d) → q' ≡ q ++ drafted_tokens (lexeme l) d → k ≡ length (drafted_tokens (lexeme l) d) → Writes (over m (standing r)) (feed t l free) (count k) q q' (over n s')
-    fed_writes l d k q q' (Fed.accepted x e b run enough tokens state took) list is =
-        subst (λ j. Writes (over m (standing r)) (feed t l free) (count j) q q' (over n s')) (ap length tokens ∙ sym is)
-        (record { tokens = x.tokens; list = list ∙ ap (λ ts. q ++ ts) (sym tokens); calls = record { left = _; does = feeds e b run enough; state = state; parser = took } })
+  -- the sheet was finished
+  pub finished_writes : {p : Place} {d : Draft} {k : ℕ} {q q' : List Token} → Finished (over m (standing r)) t p free (over n s') (Ok d) → q' ≡ q ++ drafted_tokens (ending p) d → k ≡ length (drafted_tokens (ending p) d) → Writes (over m (standing r)) (finish t p free) (count k) q q' (over n s')
+  finished_writes {p} {q = q} {q'} (Finished.accepted x e run whole enough tokens state took) list is =
+      subst (λ j. Writes (over m (standing r)) (finish t p free) (count j) q q' (over n s')) (ap length tokens ∙ sym is)
+      (record { tokens = x.tokens; list = list ∙ ap (λ ts. q ++ ts) (sym tokens); calls = record { left = _; does = finishes e run whole enough; state = state; parser = took } })
 
-    -- or not
-    pub fed_denied : (l : Lexeme) (why : Reason) (f : Fault) (q : List Token) → Fed (over m (standing r)) t l free (over n s') (Err why) → f ≡ fault s' l.line l.column why → Writes (over m (standing r)) (feed t l free) (refused f) q q (over n s')
-    fed_denied l why f q (Fed.denied fails state took) is =
-        subst (λ (x : Fault). Writes (over m (standing r)) (feed t l free) (refused x) q q (over n s')) (sym (is ∙ ap (λ (s : State). fault s l.line l.column why) state))
-        (record { tokens = []; list = none_behind q; calls = record { left = standing r; does = feed_fails fails; state = state; parser = took } })
-
-    -- the sheet was finished
-    pub finished_writes : (p : Place) (d : Draft) (k : ℕ) (q q' : List Token) → Finished (over m (standing r)) t p free (over n s') (Ok d) → q' ≡ q ++ drafted_tokens (ending p) d → k ≡ length (drafted_tokens (ending p) d) → Writes (over m (standing r)) (finish t p free) (count k) q q' (over n s')
-    finished_writes p d k q q' (Finished.accepted x e run whole enough tokens state took) list is =
-        subst (λ j. Writes (over m (standing r)) (finish t p free) (count j) q q' (over n s')) (ap length tokens ∙ sym is)
-        (record { tokens = x.tokens; list = list ∙ ap (λ ts. q ++ ts) (sym tokens); calls = record { left = _; does = finishes e run whole enough; state = state; parser = took } })
-
-    -- or not
-    pub finished_denied : (p : Place) (why : Reason) (f : Fault) (q : List Token) → Finished (over m (standing r)) t p free (over n s') (Err why) → f ≡ fault s' p.line p.column why → Writes (over m (standing r)) (finish t p free) (refused f) q q (over n s')
-    finished_denied p why f q (Finished.denied fails state took) is =
-        subst (λ (x : Fault). Writes (over m (standing r)) (finish t p free) (refused x) q q (over n s')) (sym (is ∙ ap (λ (s : State). fault s p.line p.column why) state))
-        (record { tokens = []; list = none_behind q; calls = record { left = standing r; does = finish_fails fails; state = state; parser = took } })
+  -- or not
+  pub finished_denied : {p : Place} {why : Reason} {f : Fault} {q : List Token} → Finished (over m (standing r)) t p free (over n s') (Err why) → f ≡ fault s' p.line p.column why → Writes (over m (standing r)) (finish t p free) (refused f) q q (over n s')
+  finished_denied {p} {why} {q = q} (Finished.denied fails state took) is =
+      subst (λ (x : Fault). Writes (over m (standing r)) (finish t p free) (refused x) q q (over n s')) (sym (is ∙ ap (λ (z : State). fault z p.line p.column why) state))
+      (record { tokens = []; list = none_behind q; calls = record { left = standing r; does = finish_fails fails; state = state; parser = took } })

@@ -1,6 +1,5 @@
 -- Tokens inserted one after another. Assumes nothing.
-use Rattle.std.proofs.Common.{◌≡◌, ℕ, zero, suc, ◌+◌, ◌<◌, ◌≤◌, true, false, not, List, [], ◌∷◌, ◌++◌, map, length, get_or, take, drop, replicate, Ok, Err, Result, sym, refl, ap, ◌∙◌, subst, arith, length-append}
-use lib.ListN.{length-replicate}
+use Rattle.std.proofs.Common.{◌≡◌, ℕ, zero, suc, ◌+◌, ◌<◌, ◌≤◌, true, false, not, List, [], ◌∷◌, ◌++◌, map, length, get_or, take, drop, Ok, Err, Result, sym, refl, ap, ◌∙◌, subst, arith}
 use Rattle.std.proofs.lemmas.List.{append_assoc, append-nil, drop_all, drop-map, drop_more, get_or-map, length-map, take_all, take_more}
 use Rattle.std.proofs.lemmas.Bool.{and_parts, not-true}
 use Rattle.parser.specs.Meaning.{Alike, Meaning, taken}
@@ -9,20 +8,11 @@ use Rattle.parser.proofs.Meanings.{begins_same, mark_trans, same_sym, same_trans
 use Rattle.parser.proofs.Steps.{after_more, after_none}
 use Rattle.sheet.specs.declared.fault.Reason.{Reason}
 use Rattle.sheet.specs.declared.fault.Reason.TheVariants.{ReachSpent}
-use Rattle.layout.specs.Drafts.{AllClose, Inserted, Next, NextAll, Row, Step, drafted, if_set, is_separator, no_separator, not_viable, reach_spent, refused, taken_on, tokens_of, too_deep}
+use Rattle.layout.specs.Drafts.{AllClose, Inserted, Next, NextAll, Row, Step, drafted, is_separator, no_separator, not_viable, reach_spent, refused, taken_on, tokens_of, too_deep}
 use Rattle.layout.specs.Limits.{Goes, done, goes, not_viable as goes_not_viable, reach_spent as goes_reach_spent, too_deep as goes_too_deep}
 use Rattle.layout.specs.Rules.{insert_kind}
 use Rattle.layout.specs.declared.draft.Draft.{Draft}
 use Rattle.layout.specs.declared.rule.Insert.{Insert}
-
--- a draft has no more closes than tokens
-pub closes_few : (d : Draft) → d.closes + d.closes_after ≤ length (tokens_of d)
-closes_few d =
-    let x : List ℕ = if_set d.brace 3 in
-    let y : List ℕ = replicate d.closes 4 in
-    let z : List ℕ = if_set d.separator 5 in
-    let w : List ℕ = replicate d.closes_after 4 in
-    omega (arith, length-append x (y ++ (z ++ w)), length-append y (z ++ w), length-append z w, length-replicate {A = ℕ} d.closes 4, length-replicate {A = ℕ} d.closes_after 4)
 
 -- one token: the steps that are left begin with it
 pub step_goes : (kind depth : ℕ) (u : List ℕ) (from m n : Meaning) (w : List ℕ) (o : Result ℕ Reason) → Alike m (after u from) → Step kind depth m n (Ok tt)

@@ -48,10 +48,6 @@ module _ (cs : List ℕ) (m : Option Mark) (c : Coming) (free : ℕ) (before now
   pub attempt_fits : (d : Draft) → Laying cs m c before now (Ok d) → WholeAt now.remainder c → length (drafted_tokens c d) ≤ free → Attempts cs m c free before now (Ok d)
   attempt_fits d (drafts.laid x r tokens contexts shallow so) w enough = Attempts.accepted x (Tries.fits r (whole_told c x so w) (omega (arith, ap length tokens))) tokens contexts shallow so
 
--- the same at a mark and before what comes, by another name
-pub moves_at : {cs : List ℕ} {k k' : Option Mark} {c c' : Coming} {free : ℕ} {m n : Meaning} {o : Result Draft Reason} → k ≡ k' → c ≡ c' → Moves cs k c free m n o → Moves cs k' c' free m n o
-moves_at {cs} {free = free} {m} {n} {o} e f x = subst (λ (p : Option Mark × Coming). Moves cs p.0 p.1 free m n o) (λ i. (e i, f i)) x
-
 -- over a language with the same lists all is tried alike
 whole_same : {A R : Lists} (c : Coming) (x : Laid) → Same A R → Whole A c x → Whole R c x
 whole_same (lexeme l) x same w = tt
@@ -94,11 +90,3 @@ module _ (cs : List ℕ) (m : Option Mark) (c : Coming) (free : ℕ) (before mid
         remainder = as_before.0;
         left = as_before.1 ∙ omega arith;
       })
-
-  -- and no mark is left
-  cleared : (held : Held) → SameMark held (holds before.remainder before.left) → (n : Meaning) → Alike n (restored held now) → SameMark n.mark absent
-  cleared absent is n end = elim is [ ]
-  cleared (holds A k) is n end = end.mark
-
-  pub back_unmarked : (why : Reason) → Attempts cs m c free mid now (Err why) → Alike last (returned now) → SameMark last.mark absent
-  back_unmarked why (Attempts.refused t b) end = cleared now.mark (mark_trans now.mark mid.mark (holds before.remainder before.left) b.mark mark.mark) last end

@@ -1,5 +1,5 @@
 -- The rules on their way over what comes. Assumes nothing.
-use Rattle.std.proofs.Common.{◌≡◌, ℕ, ◌+◌, ◌*◌, ◌<◌, ◌≤◌, Bool, true, false, ◌⊎◌, List, [], ◌∷◌, ◌++◌, map, length, replicate, is_some, None as none, Ok, Err, Result, sym, refl, ap, ◌∙◌, subst, inl, inr, ⊎_elim, arith, length-append, Option, Some}
+use Rattle.std.proofs.Common.{◌≡◌, ℕ, ◌+◌, ◌*◌, ◌<◌, ◌≤◌, Bool, true, false, ◌⊎◌, List, [], ◌∷◌, ◌++◌, map, length, is_some, None as none, Ok, Err, Result, sym, refl, ap, ◌∙◌, subst, inl, inr, ⊎_elim, arith, length-append, Option, Some}
 use Rattle.std.proofs.lemmas.List.{append_assoc, append-nil, map-append}
 use Rattle.std.proofs.lemmas.Bool.{cases_Bool, false≢true, true≢false}
 use Rattle.parser.specs.Meaning.{Alike, Meaning}
@@ -10,7 +10,7 @@ use Rattle.parser.proofs.Steps.{after_none}
 use Rattle.sheet.specs.declared.fault.Reason.{Reason}
 use Rattle.sheet.specs.declared.lexeme.Token.{Token}
 use Rattle.layout.specs.Contexts.{stack, stacked}
-use Rattle.layout.specs.Drafts.{Bound, Inserted, Laying, NextAll, Row, contexts_of, drafted, if_set, no_separator, refused, stopped, tokens_of, with_opened}
+use Rattle.layout.specs.Drafts.{empty, Bound, Inserted, Laying, NextAll, Row, contexts_of, drafted, no_separator, refused, stopped, tokens_of, with_opened}
 use Rattle.layout.specs.Limits.{Goes, Laid, Runs, and_before, goes_on, stops}
 use Rattle.layout.specs.Marks.{Fitting, column, inserted, kind}
 use Rattle.layout.specs.Rules.{Applies, block_left_open, close_at_end, close_on_error, close_shallower, close_typed, drop_deeper, drop_outside, empty_block, end, inserting, inserts, insert_kind, leaves, onward, open_block, open_typed, opening, separate, stray_close, write_lexeme}
@@ -358,22 +358,12 @@ weight_few none = omega arith
 weight_few (Some Line) = omega arith
 weight_few (Some Block) = omega arith
 
-pub running_new : (cs : List ℕ) (m : Option Mark) (c : Coming) (before : Meaning) (d : Draft) → d.depth ≡ length cs → d.opened ≡ none → (d.brace ≡ false) × (d.closes ≡ 0) × (d.separator ≡ false) × (d.closes_after ≡ 0) → length cs ≤ 64 → Fitting m c
-    → Running cs m c before d m before
-running_new cs m c before d at opened row small fitting =
-    let none_yet : tokens_of d ≡ [] = (λ i. if_set (row.0 i) 3 ++ (replicate (row.1 i) 4 ++ (if_set (row.2 i) 5 ++ replicate (row.3 i) 4))) in
-    let around : contexts_of cs d ≡ stacked cs = (λ i. with_opened (opened i) (stack cs (at i))) in
+pub running_new : (cs : List ℕ) (m : Option Mark) (c : Coming) (before : Meaning) → length cs ≤ 64 → Fitting m c → Running cs m c before (empty (length cs)) m before
+running_new cs m c before small fitting =
     record {
-      stands = record {
-        steps = subst (λ (w : List ℕ). Alike before (after w before)) (sym none_yet) (after_none before);
-        runs = λ o run.
-            subst (λ (w : List ℕ). Runs before.remainder [] before.left (stacked cs) m c (and_before (map (inserted c) w) o)) (sym none_yet)
-            (subst (Runs before.remainder [] before.left (stacked cs) m c) (before_nothing o)
-            (subst (λ (l : List ℕ). Runs before.remainder [] before.left l m c o) around (subst (λ (w : List ℕ). Runs before.remainder w before.left (contexts_of cs d) m c o) none_yet run)));
-        shallow = omega (arith, at);
-      };
-      phase = phase_new m d (row.0, row.1, row.2, row.3, ap is_some opened);
+      stands = record { steps = after_none before; runs = λ o run. subst (Runs before.remainder [] before.left (stacked cs) m c) (before_nothing o) run; shallow = omega arith };
+      phase = phase_new m (empty (length cs)) (refl, refl, refl, refl, refl);
       fitting = fitting;
-      brace = λ some k. absurd (false≢true (sym (ap is_some opened) ∙ some));
-      small = omega (arith, ap length none_yet, ap length around, length_stack cs (length cs), weight_few m);
+      brace = λ some k. absurd (false≢true some);
+      small = omega (arith, length_stack cs (length cs), weight_few m);
     }

@@ -31,41 +31,57 @@ from_start : {R : Lists} {left : ℕ} {ks : List ℕ} {m : Option Mark} {c : Com
 from_start {R} {left} {ks} {m} {c} {o} r = let all : left ≡ left - 0 = omega arith in subst (λ n. Runs R [] n ks m c o) all r
 
 -- what is accepted leaves contexts that can be kept
-pub moves_sound : {P : Type 0} (r : Resolver P) (m : Option Mark) (c : Coming) (free : ℕ) (before now : Meaning) (d : Draft) → Moves r.contexts.items m c free before now (Ok d) → Sound (contexts_of r.contexts.items d) × (d.depth ≤ array_vec_len r.contexts)
-moves_sound r m c free before now d (Moves.accepted x (Tries.fits run w f) tokens contexts shallow took) =
+pub moves_sound : {P : Type 0} (r : Resolver P) {m : Option Mark} {c : Coming} {free : ℕ} {before now : Meaning} {d : Draft} → Moves r.contexts.items m c free before now (Ok d) → Sound (contexts_of r.contexts.items d) × (d.depth ≤ array_vec_len r.contexts)
+moves_sound r (Moves.accepted x (Tries.fits run w f) tokens contexts shallow took) =
     (subst Sound contexts (runs_sound run (record { rising = r.rising; few = omega (arith, length_stack r.contexts.items (array_vec_len r.contexts), r.shallow) })), shallow)
 
-module _ (m : Meaning) (s : State) (t : ℕ) (free : ℕ) where
+module _ {m : Meaning} {s : State} {t free : ℕ} where
   -- refused before the rules are asked
-  pub fed_wrong : (l : Lexeme) → (s.sheet ≡ Some t → ⊥) → Fed (over m s) t l free (over m s) (Err WrongTicket)
-  fed_wrong l n = Fed.denied (FeedFails.wrong_ticket n) refl (took_none m)
+  pub fed_wrong : {l : Lexeme} → (s.sheet ≡ Some t → ⊥) → Fed (over m s) t l free (over m s) (Err WrongTicket)
+  fed_wrong n = Fed.denied (FeedFails.wrong_ticket n) refl (took_none m)
 
-  pub fed_bad : (l : Lexeme) → s.sheet ≡ Some t → (Good l → ⊥) → Fed (over m s) t l free (over m s) (Err BadLexeme)
-  fed_bad l e n = Fed.denied (FeedFails.bad_lexeme e n) refl (took_none m)
+  pub fed_bad : {l : Lexeme} → s.sheet ≡ Some t → (Good l → ⊥) → Fed (over m s) t l free (over m s) (Err BadLexeme)
+  fed_bad e n = Fed.denied (FeedFails.bad_lexeme e n) refl (took_none m)
 
-  pub finished_wrong : (p : Place) → (s.sheet ≡ Some t → ⊥) → Finished (over m s) t p free (over m s) (Err WrongTicket)
-  finished_wrong p n = Finished.denied (FinishFails.wrong_ticket n) refl (took_none m)
+  pub finished_wrong : {p : Place} → (s.sheet ≡ Some t → ⊥) → Finished (over m s) t p free (over m s) (Err WrongTicket)
+  finished_wrong n = Finished.denied (FinishFails.wrong_ticket n) refl (took_none m)
 
-module _ {P : Type 0} (r : Resolver P) (m n : Meaning) (t free : ℕ) where
+-- the same at a mark and before what comes, by another name
+moves_at : {cs : List ℕ} {k k' : Option Mark} {c c' : Coming} {free : ℕ} {m n : Meaning} {o : Result Draft Reason} → k ≡ k' → c ≡ c' → Moves cs k c free m n o → Moves cs k' c' free m n o
+moves_at {cs} {free = free} {m} {n} {o} e f x = subst (λ (p : Option Mark × Coming). Moves cs p.0 p.1 free m n o) (λ i. (e i, f i)) x
+
+module _ {P : Type 0} (r : Resolver P) {m n : Meaning} {t free : ℕ} {s' : State} {k : Option Mark} {c : Coming} where
   -- refused by the rules, or for want of room
-  pub fed_refused : (l : Lexeme) (s' : State) (why : Reason) → r.sheet ≡ Some t → Good l → s' ≡ standing r → Moves r.contexts.items (mark_of r.before l) (lexeme l) free m n (Err why) → Fed (over m (standing r)) t l free (over n s') (Err why)
-  fed_refused l s' why e b same (Moves.refused (Tries.stopped run) took) = Fed.denied (FeedFails.stopped e b (from_start run)) same took
-  fed_refused l s' why e b same (Moves.refused (Tries.not_whole run w) took) = absurd (w tt)
-  fed_refused l s' why e b same (Moves.refused (Tries.no_room run w f) took) = Fed.denied (FeedFails.no_room e b (from_start run) f) same took
+  pub fed_refused : {l : Lexeme} {why : Reason} → r.sheet ≡ Some t → Good l → s' ≡ standing r → k ≡ mark_of r.before l → c ≡ lexeme l → Moves r.contexts.items k c free m n (Err why) → Fed (over m (standing r)) t l free (over n s') (Err why)
+  fed_refused {l} e b same at is told = refused (moves_at at is told)
+    where
+      refused : {why : Reason} → Moves r.contexts.items (mark_of r.before l) (lexeme l) free m n (Err why) → Fed (over m (standing r)) t l free (over n s') (Err why)
+      refused (Moves.refused (Tries.stopped run) took) = Fed.denied (FeedFails.stopped e b (from_start run)) same took
+      refused (Moves.refused (Tries.not_whole run w) took) = absurd (w tt)
+      refused (Moves.refused (Tries.no_room run w f) took) = Fed.denied (FeedFails.no_room e b (from_start run) f) same took
 
-  pub finished_refused : (p : Place) (s' : State) (why : Reason) → r.sheet ≡ Some t → s' ≡ standing r → Moves r.contexts.items (end_mark r.before) (ending p) free m n (Err why) → Finished (over m (standing r)) t p free (over n s') (Err why)
-  finished_refused p s' why e same (Moves.refused (Tries.stopped run) took) = Finished.denied (FinishFails.stopped e (from_start run)) same took
-  finished_refused p s' why e same (Moves.refused (Tries.not_whole run w) took) = Finished.denied (FinishFails.not_complete e (from_start run) w) same took
-  finished_refused p s' why e same (Moves.refused (Tries.no_room run w f) took) = Finished.denied (FinishFails.no_room e (from_start run) w f) same took
+  pub finished_refused : {p : Place} {why : Reason} → r.sheet ≡ Some t → s' ≡ standing r → k ≡ end_mark r.before → c ≡ ending p → Moves r.contexts.items k c free m n (Err why) → Finished (over m (standing r)) t p free (over n s') (Err why)
+  finished_refused {p} e same at is told = refused (moves_at at is told)
+    where
+      refused : {why : Reason} → Moves r.contexts.items (end_mark r.before) (ending p) free m n (Err why) → Finished (over m (standing r)) t p free (over n s') (Err why)
+      refused (Moves.refused (Tries.stopped run) took) = Finished.denied (FinishFails.stopped e (from_start run)) same took
+      refused (Moves.refused (Tries.not_whole run w) took) = Finished.denied (FinishFails.not_complete e (from_start run) w) same took
+      refused (Moves.refused (Tries.no_room run w f) took) = Finished.denied (FinishFails.no_room e (from_start run) w f) same took
 
   -- accepted
-  pub fed_accepted : (l : Lexeme) (s' : State) (d : Draft) → r.sheet ≡ Some t → Good l → s' ≡ record { sheet = r.sheet; next = next_of r.next; contexts = contexts_of r.contexts.items d; before = after l.kind; written = [] }
-      → Moves r.contexts.items (mark_of r.before l) (lexeme l) free m n (Ok d) → Fed (over m (standing r)) t l free (over n s') (Ok d)
-  fed_accepted l s' d e b same (Moves.accepted x (Tries.fits run w f) tokens contexts shallow took) =
-      Fed.accepted x e b (from_start run) f tokens (same ∙ ap (λ ks. record { sheet = r.sheet; next = next_of r.next; contexts = ks; before = after l.kind; written = [] }) (sym contexts)) took
+  pub fed_accepted : {l : Lexeme} {d : Draft} → r.sheet ≡ Some t → Good l → s' ≡ record { sheet = r.sheet; next = next_of r.next; contexts = contexts_of r.contexts.items d; before = after l.kind; written = [] } → k ≡ mark_of r.before l → c ≡ lexeme l
+      → Moves r.contexts.items k c free m n (Ok d) → Fed (over m (standing r)) t l free (over n s') (Ok d)
+  fed_accepted {l} {d} e b same at is told = accepted (moves_at at is told)
+    where
+      accepted : Moves r.contexts.items (mark_of r.before l) (lexeme l) free m n (Ok d) → Fed (over m (standing r)) t l free (over n s') (Ok d)
+      accepted (Moves.accepted x (Tries.fits run w f) tokens contexts shallow took) =
+          Fed.accepted x e b (from_start run) f tokens (same ∙ ap (λ ks. record { sheet = r.sheet; next = next_of r.next; contexts = ks; before = after l.kind; written = [] }) (sym contexts)) took
 
-  pub finished_accepted : (p : Place) (s' : State) (d : Draft) → r.sheet ≡ Some t → s' ≡ shut (standing r) → Moves r.contexts.items (end_mark r.before) (ending p) free m n (Ok d) → Finished (over m (standing r)) t p free (over n s') (Ok d)
-  finished_accepted p s' d e same (Moves.accepted x (Tries.fits run w f) tokens contexts shallow took) = Finished.accepted x e (from_start run) w f tokens same took
+  pub finished_accepted : {p : Place} {d : Draft} → r.sheet ≡ Some t → s' ≡ shut (standing r) → k ≡ end_mark r.before → c ≡ ending p → Moves r.contexts.items k c free m n (Ok d) → Finished (over m (standing r)) t p free (over n s') (Ok d)
+  finished_accepted {p} {d} e same at is told = accepted (moves_at at is told)
+    where
+      accepted : Moves r.contexts.items (end_mark r.before) (ending p) free m n (Ok d) → Finished (over m (standing r)) t p free (over n s') (Ok d)
+      accepted (Moves.accepted x (Tries.fits run w f) tokens contexts shallow took) = Finished.accepted x e (from_start run) w f tokens same took
 
 -- all but the parser is as before, so the sheet stands as before
 pub beside_standing : {P : Type 0} (r q : Resolver P) → Beside r q → standing q ≡ standing r

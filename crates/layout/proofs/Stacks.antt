@@ -1,5 +1,5 @@
 -- The contexts of a draft. Assumes nothing.
-use Rattle.std.proofs.Common.{◌≡◌, ℕ, zero, suc, ◌+◌, ◌-◌, ◌<◌, ◌≤◌, Bool, true, false, cond, eqb, ltb, List, [], ◌∷◌, ◌++◌, length, get_or, take, drop, is_some, Some, None, Option, sym, refl, ap, ◌∙◌, add-one, arith, length-append, length-take}
+use Rattle.std.proofs.Common.{◌≡◌, ℕ, zero, suc, ◌+◌, ◌<◌, ◌≤◌, Bool, true, false, cond, eqb, ltb, List, [], ◌∷◌, ◌++◌, length, get_or, take, drop, is_some, Some, None, Option, sym, refl, ap, ◌∙◌, add-one, arith, length-append, length-take}
 use Rattle.std.proofs.Math.Seq.{get_or-append_seam}
 use mir.Val.{bool_byte}
 use Rattle.std.proofs.lemmas.Bool.{cond_both, eq-eqb, eqb-true, false≢true, ltb-false, ltb-true, ne_eqb, true≢false}
@@ -13,15 +13,7 @@ pub length_stack : (cs : List ℕ) (d : ℕ) → length (stack cs d) ≡ d
 length_stack cs zero = refl
 length_stack cs (suc d) = ap suc (length_stack cs d)
 
--- a stack of some contexts has an innermost one
-pub stack_more : (cs : List ℕ) (d : ℕ) → (d ≡ 0 → ⊥) → stack cs d ≡ get_or cs (d - 1) 0 ∷ stack cs (d - 1)
-stack_more cs zero h = absurd (h refl)
-stack_more cs (suc d) h = let back : d ≡ suc d - 1 = omega arith in ap (λ n. get_or cs n 0 ∷ stack cs n) back
-
-pub opened_none : (o : Option ℕ) (ks : List ℕ) → is_some o ≡ false → with_opened o ks ≡ ks
-opened_none None ks e = refl
-opened_none (Some k) ks e = absurd (true≢false e)
-
+-- one that was opened is one more
 pub opened_length : (o : Option ℕ) (ks : List ℕ) → length (with_opened o ks) ≡ length ks + bool_byte (is_some o)
 opened_length None ks = omega arith
 opened_length (Some k) ks = omega arith

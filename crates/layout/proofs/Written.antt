@@ -1,11 +1,9 @@
 -- The tokens of a draft, counted and written one after another. Assumes nothing.
-use Rattle.std.proofs.Common.{◌≡◌, ℕ, ◌+◌, ◌≤◌, Bool, true, false, not, List, [], ◌∷◌, ◌++◌, map, length, replicate, sym, refl, ap, ◌∙◌, subst, arith, length-append}
+use Rattle.std.proofs.Common.{◌≡◌, ℕ, ◌+◌, Bool, true, false, not, List, [], ◌∷◌, ◌++◌, map, length, replicate, refl, ap, ◌∙◌, arith, length-append}
 use lib.LanesLaws.{map-replicate}
 use lib.ListN.{length-replicate}
 use mir.Val.{bool_byte}
 use Rattle.std.proofs.lemmas.List.{append_assoc, length-map, map-append}
-use Rattle.sheet.specs.declared.lexeme.Lexeme.{Lexeme}
-use Rattle.sheet.specs.declared.lexeme.Place.{Place}
 use Rattle.sheet.specs.Tokens.{written}
 use Rattle.layout.specs.Drafts.{drafted_tokens, if_set, tokens_of}
 use Rattle.layout.specs.Marks.{inserted, is_end}
@@ -58,13 +56,3 @@ pub four_behind : {T : Type 0} (w a b c d w₁ w₂ w₃ w₄ : List T) → w₁
 four_behind w a b c d w₁ w₂ w₃ w₄ e₁ e₂ e₃ e₄ =
     e₄ ∙ ap (λ x. x ++ d) (e₃ ∙ ap (λ x. x ++ c) (e₂ ∙ ap (λ x. x ++ b) e₁))
     ∙ append_assoc ((w ++ a) ++ b) c d ∙ append_assoc (w ++ a) b (c ++ d) ∙ append_assoc w a (b ++ (c ++ d))
-
--- the lexeme comes behind what is inserted
-pub drafted_at_lexeme : (c : Coming) (l : Lexeme) (d : Draft) → c ≡ lexeme l → drafted_tokens c d ≡ map (inserted c) (tokens_of d) ++ written l ∷ []
-drafted_at_lexeme c l d e = subst (λ (x : Coming). drafted_tokens x d ≡ map (inserted x) (tokens_of d) ++ written l ∷ []) (sym e) refl
-
-pub drafted_at_end : (c : Coming) (p : Place) (d : Draft) → c ≡ ending p → drafted_tokens c d ≡ map (inserted c) (tokens_of d)
-drafted_at_end c p d e = subst (λ (x : Coming). drafted_tokens x d ≡ map (inserted x) (tokens_of d)) (sym e) refl
-
-pub inserted_fewer : (c : Coming) (d : Draft) → length (tokens_of d) ≤ length (drafted_tokens c d)
-inserted_fewer c d = omega (arith, count_drafted c d)

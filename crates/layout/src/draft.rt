@@ -1,7 +1,7 @@
 // What a call would leave, kept apart until it is known that all of it fits.
-ghost use Rattle.std.specs.Prelude.{◌≡◌, ℕ, ◌+◌, ◌^◌, ◌<◌, ◌≤◌, true, false, List, [], ◌∷◌, ◌++◌, length, is_some, None as none, Decides};
+ghost use Rattle.std.specs.Prelude.{◌≡◌, ℕ, ◌+◌, ◌^◌, ◌<◌, ◌≤◌, true, false, List, [], ◌∷◌, ◌++◌, length, is_some, Decides};
 ghost use Rattle.parser.specs.Meaning.{meaning};
-ghost use Rattle.layout.specs.Drafts.{Inserted, Next, NextAll, Row, Step, contexts_of, drafted_tokens, is_separator, reason_of, tokens_of};
+ghost use Rattle.layout.specs.Drafts.{Inserted, Next, NextAll, Row, Step, contexts_of, drafted_tokens, empty, is_separator, reason_of, tokens_of};
 ghost use Rattle.layout.specs.First.{innermost_of};
 ghost use Rattle.layout.specs.Limits.{Room};
 ghost use Rattle.layout.specs.Rules.{insert_kind, leaves, opening, outer};
@@ -29,9 +29,7 @@ pub struct Draft {
 impl Draft {
     // Nothing inserted yet, and as many blocks open as the sheet has.
     pub fn new(depth: usize) -> Draft
-        ensures depth { result.depth ≡ depth }
-        ensures opened { result.opened ≡ none }
-        ensures row { (result.brace ≡ false) × (result.closes ≡ 0) × (result.separator ≡ false) × (result.closes_after ≡ 0) }
+        ensures { result ≡ empty depth }
     {
         Draft {
             depth,

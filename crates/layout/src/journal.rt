@@ -43,7 +43,8 @@ fn spend(ticket: Ticket) {
     let Ticket { number: _ } = ticket;
 }
 
-// What a call answered that hands its ticket back where it refuses.
+// What a call answered that hands its ticket back where it refuses. This is no `From`, by which anyone could let a
+// ticket go.
 fn refusal(refused: Refusal) -> Fault
     ensures { result ≡ refused.fault }
 {

@@ -27,6 +27,7 @@ pub struct Resolver<P> {
     sheet: Option<u64>,
     // The number that the next sheet gets; none once the last was handed out.
     next: Option<u64>,
+    // That an `ArrayVec` holds no more than its capacity shows in no clause of it, so it is said here.
     ghost shallow: { array_vec_len contexts ≤ 64 },
     ghost rising: { rises (stacked contexts.items) ≡ true },
     ghost bare: { idle sheet contexts.items ≡ true },

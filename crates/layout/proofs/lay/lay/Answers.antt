@@ -1,19 +1,14 @@
-use Rattle.std.proofs.Common.{false, ◌≡◌, ℕ, List, [], length, Ok, Err, Result, sym, ap, ◌∙◌, subst, arith}
+use Rattle.std.proofs.Common.{false, ◌≡◌, ℕ, [], length, Ok, Err, sym, ap, ◌∙◌, subst, arith}
 use Rattle.std.proofs.lemmas.Result.{err_from_is_err_and}
 use Rattle.parser.specs.Meaning.{Meaning}
-use Rattle.sheet.specs.declared.fault.Reason.{Reason}
-use Rattle.layout.specs.Drafts.{Inserted, Laying, NextAll, tokens_of, Step, contexts_of}
+use Rattle.layout.specs.Drafts.{Laying, NextAll, tokens_of, Step, contexts_of}
 use Rattle.layout.specs.Marks.{column, kind}
-use Rattle.layout.specs.Rules.{Applies, inserting, leaves, onward}
-use Rattle.layout.specs.declared.draft.Draft.{Draft}
-use Rattle.layout.specs.declared.rule.Insert.{Insert}
-use Rattle.layout.specs.declared.rule.Onward.{Onward}
-use Rattle.layout.specs.declared.rule.Onward.TheVariants.{Mark as at_mark}
+use Rattle.layout.specs.Rules.{Applies, leaves}
 use Rattle.layout.proofs.Exits.{ended_at, no_lexeme, exit_undefined, refused_at, written_at}
-use Rattle.layout.proofs.Running.{Standing, at_some, inserted_contexts, inserting_few, mark_in, phase_next, rank, rule_rank, running_more, running_new, running_stops, same_stand, still_single}
+use Rattle.layout.proofs.Running.{Standing, at_some, inserted_contexts, mark_in, phase_next, rank, rule_rank, running_more, running_new, running_stops, same_stand, still_single}
 use Rattle.layout.proofs.lay.lay.Given as given
 use Rattle.layout.proofs.lay.lay.Goals as goal
-use Rattle.layout.proofs.lay.lay.Goals.{After-insert_all, After-onward, After-rule_at-rule}
+use Rattle.layout.proofs.lay.lay.Goals.{After-onward, After-rule_at-rule}
 use Rattle.parser.proofs.Bound.{means}
 
 -- the parser's meaning
@@ -24,72 +19,40 @@ of g p = means g.P.Stepping g.P.Probing p
 applies : (g : given.Over) (c : After-rule_at-rule g) → Applies (of g c.loop-inserted.parser).remainder [] c.loop-inserted.mark c.args.marked.now.coming (contexts_of c.args.contexts.now c.loop-inserted.draft) c.rule_at-rule.result
 applies g c = c.rule_at-rule.ensures.applies (contexts_of c.args.contexts.now c.loop-inserted.draft) (sym c.innermost.ensures)
 
--- its tokens are inserted, or not
-insertion : (g : given.Over) (c : After-insert_all g) (o : Result Draft Reason)
-    → Inserted c.inserting.result.now c.blocks-blocks.result c.loop-inserted.draft (of g c.loop-inserted.parser) (of g c.insert_all.new.parser) o
-    → Inserted (inserting c.rule_at-rule.result) (length (contexts_of c.args.contexts.now c.loop-inserted.draft)) c.loop-inserted.draft (of g c.loop-inserted.parser) (of g c.insert_all.new.parser) o
-insertion g c o x =
-    subst (λ (n : ℕ). Inserted (inserting c.rule_at-rule.result) n c.loop-inserted.draft (of g c.loop-inserted.parser) (of g c.insert_all.new.parser) o) (c.blocks-blocks.ensures c.args.contexts.now)
-    (subst (λ (ts : List Insert). Inserted ts c.blocks-blocks.result c.loop-inserted.draft (of g c.loop-inserted.parser) (of g c.insert_all.new.parser) o) c.inserting.ensures x)
-
-pub blocks-blocks-requires : goal.blocks-blocks-requires
-blocks-blocks-requires g c = omega (arith, c.loop-inserted.invariant.stands.shallow, c.requires)
-
-pub innermost-requires : goal.innermost-requires
-innermost-requires g c = c.loop-inserted.invariant.stands.shallow
-
 pub loop-inserted-init : goal.loop-inserted-init
-loop-inserted-init g c = running_new c.args.contexts.now c.args.marked.now.mark c.args.marked.now.coming (of g c.args.parser.now) c.new-draft.result c.new-draft.ensures.depth c.new-draft.ensures.opened c.new-draft.ensures.row c.requires c.args.marked.now.fitting
+loop-inserted-init g c = rw c.new-draft.ensures (running_new c.args.contexts.now c.args.marked.now.mark c.args.marked.now.coming _ c.requires c.args.marked.now.fitting)
 
-pub insert_all-requires : goal.insert_all-requires
-insert_all-requires g c =
-    let rule = (goal.at.insert_all-requires g c).After-rule_at-rule in
-    record {
-      order = subst (NextAll c.loop-inserted.draft) (sym c.inserting.ensures) (phase_next c.loop-inserted.draft (applies g rule) c.loop-inserted.invariant.phase);
-      few = omega (arith, c.loop-inserted.invariant.small, inserting_few c.rule_at-rule.result, ap length c.inserting.ensures);
-    }
+pub insert_all-requires-clause-order : goal.insert_all-requires-clause-order
+insert_all-requires-clause-order g c =
+    subst (NextAll c.loop-inserted.draft) (sym c.inserting.ensures) (phase_next c.loop-inserted.draft (applies g (goal.at.insert_all-requires-clause-order g c).After-rule_at-rule) c.loop-inserted.invariant.phase)
 
 pub returns-in_err-inserted : goal.returns-in_err-inserted
 returns-in_err-inserted g c =
-    let at = (goal.at.returns-in_err-inserted g c).After-insert_all in
-    let rule = (goal.at.returns-in_err-inserted g c).After-rule_at-rule in
     let turned = err_from_is_err_and c.from_residual.result c.from_residual.ensures.1 in
-    let why = c.in_err-inserted.field-0.0 in
-    subst (Laying c.args.contexts.now c.args.marked.now.mark c.args.marked.now.coming (of g c.args.parser.now) (of g c.insert_all.new.parser)) (sym (turned.1 ∙ ap Err turned.2))
-    (running_stops c.args.contexts.now c.args.marked.now.mark c.args.marked.now.coming (of g c.args.parser.now) c.loop-inserted.draft c.loop-inserted.mark (of g c.loop-inserted.parser) c.rule_at-rule.result
-    c.loop-inserted.invariant (applies g rule) (of g c.insert_all.new.parser) why (insertion g at (Err why) c.in_err-inserted.ensures))
-
--- how the rule goes on
-goes_on : (g : given.Over) (c : After-onward g) (o : Onward) → c.onward.result ≡ o → onward c.rule_at-rule.result ≡ o
-goes_on g c o e = sym c.onward.ensures ∙ e
+    rw (turned.1 ∙ ap Err turned.2)
+    (running_stops _ _ _ _ _ _ _ _ c.loop-inserted.invariant (applies g (goal.at.returns-in_err-inserted g c).After-rule_at-rule) _ _ (rw c.inserting.ensures at (rw (c.blocks-blocks.ensures c.args.contexts.now) at c.in_err-inserted.ensures)))
 
 pub after-draft-requires : goal.after-draft-requires
 after-draft-requires g c =
     let so = c.loop-inserted.invariant in
-    let rule = (goal.at.after-draft-requires g c).After-rule_at-rule in
-    record { single = still_single c.loop-inserted.draft c.in_ok-inserted.inserted (applies g rule) so.phase so.brace c.in_ok-inserted.ensures }
+    record { single = still_single c.loop-inserted.draft c.in_ok-inserted.inserted (applies g (goal.at.after-draft-requires g c).After-rule_at-rule) so.phase so.brace c.in_ok-inserted.ensures }
 
 pub after-requires : goal.after-requires
 after-requires g c =
     let so = c.loop-inserted.invariant in
-    let rule = (goal.at.after-requires g c).After-rule_at-rule in
-    record { single = still_single c.loop-inserted.draft c.in_ok-inserted.inserted (applies g rule) so.phase so.brace c.in_ok-inserted.ensures }
+    record { single = still_single c.loop-inserted.draft c.in_ok-inserted.inserted (applies g (goal.at.after-requires g c).After-rule_at-rule) so.phase so.brace c.in_ok-inserted.ensures }
 
 pub loop-inserted-preserved : goal.loop-inserted-preserved
 loop-inserted-preserved g c =
     let cs = c.args.contexts.now in
-    let at = (goal.at.loop-inserted-preserved g c).After-insert_all in
-    let rule = (goal.at.loop-inserted-preserved g c).After-rule_at-rule in
-    let e = c.in_ok-inserted.inserted in
     let told = c.after-draft.ensures in
-    running_more cs c.args.marked.now.mark c.args.marked.now.coming (of g c.args.parser.now) c.loop-inserted.draft c.loop-inserted.mark (of g c.loop-inserted.parser) c.rule_at-rule.result
-    c.loop-inserted.invariant (applies g rule) (of g c.insert_all.new.parser) e c.after-draft.result c.in-Mark.next (goes_on g (goal.at.loop-inserted-preserved g c).After-onward (at_mark c.in-Mark.next) c.in-Mark.is)
-    (insertion g at (Ok e) c.in_ok-inserted.ensures) told.tokens (told.contexts cs ∙ ap (λ n. leaves c.rule_at-rule.result n (contexts_of cs e)) c.column.ensures) told.depth told.opened told.row
+    running_more _ _ _ _ _ _ _ _ c.loop-inserted.invariant (applies g (goal.at.loop-inserted-preserved g c).After-rule_at-rule) _ _ _ _ (sym c.onward.ensures ∙ c.in-Mark.is)
+    (rw c.inserting.ensures at (rw (c.blocks-blocks.ensures cs) at c.in_ok-inserted.ensures)) told.tokens (told.contexts cs ∙ ap (λ n. leaves c.rule_at-rule.result n (contexts_of cs c.in_ok-inserted.inserted)) c.column.ensures) told.depth told.opened told.row
 
 pub loop-inserted-smaller : goal.loop-inserted-smaller
 loop-inserted-smaller g c =
     let cs = c.args.contexts.now in
-    let on = goes_on g (goal.at.loop-inserted-smaller g c).After-onward (at_mark c.in-Mark.next) c.in-Mark.is in
+    let on = sym c.onward.ensures ∙ c.in-Mark.is in
     let left = c.after-draft.ensures.contexts cs ∙ ap (λ n. leaves c.rule_at-rule.result n (contexts_of cs c.in_ok-inserted.inserted)) c.column.ensures
     ∙ ap (leaves c.rule_at-rule.result _) (inserted_contexts cs c.loop-inserted.draft c.in_ok-inserted.inserted c.in_ok-inserted.ensures) in
     omega (arith, rule_rank (applies g (goal.at.loop-inserted-smaller g c).After-rule_at-rule) (ap at_some on), ap length left, ap rank (ap mark_in on))

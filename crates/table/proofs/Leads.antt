@@ -1,7 +1,7 @@
 -- The rule of the steps, proved at all of them by one test that antt computes from the table and the productions, and
 -- carried to each.
 -- Assumes nothing.
-use Rattle.std.proofs.Common.{◌≡◌, ℕ, zero, suc, ◌+◌, ◌<◌, ◌≤◌, Bool, true, false, ◌&&◌, eqb, ltb, leb, bytes_eq, List, [], ◌∷◌, ◌++◌, length, reverse, sym, refl, subst, append_assoc, arith}
+use Rattle.std.proofs.Common.{◌≡◌, ℕ, zero, suc, ◌+◌, ◌<◌, ◌≤◌, Bool, true, false, ◌&&◌, eqb, ltb, leb, bytes_eq, List, [], ◌∷◌, ◌++◌, length, reverse, sym, refl, ◌∙◌, subst, append_assoc, arith}
 use mathlib.Core.Bool.{false≢true}
 use Rattle.std.proofs.lemmas.List.{length-reverse}
 use Rattle.std.proofs.lemmas.Slice.Eq.{bytes_eq-Decides}
@@ -117,6 +117,11 @@ leads_makes (suc n) t (a ∷ x) rest s k ends e =
 pub step_at_lem : (a t : ℕ) → 16 ≤ a → a ≤ 25 → IsKind t → ComesBy a t (step_at a t)
 step_at_lem a t low high k rest ends =
     leads_makes 4 t (a ∷ []) rest (step_at a t) k ends (at_cell (λ a t. leads 4 t (a ∷ []) (step_at a t)) all_lead a t low high k)
+
+-- and so at a number that was read
+pub step_by : {a t n k : ℕ} → 16 ≤ a → (a ≤ 25) × IsKind t → n ≡ step_at a t → n ≡ k → ComesBy a t k
+step_by {a} {t} low known read is =
+    subst (ComesBy a t) (sym read ∙ is) (step_at_lem a t low known.0 known.1)
 
 -- symbols that are kept the last first are what is left by their number
 pub left_kept : (a t n : ℕ) (ys rest : List ℕ) → reverse ys ≡ left_of n → Ends (a ∷ rest) → ComesBy a t (suc (suc n)) → Leaves t (a ∷ []) rest ys

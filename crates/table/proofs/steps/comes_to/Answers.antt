@@ -1,6 +1,6 @@
-use Rattle.std.proofs.Common.{◌≡◌, suc, ◌-◌, sym, ◌∙◌, subst, arith}
+use Rattle.std.proofs.Common.{◌≡◌, suc, ◌-◌, sym, ◌∙◌, arith}
 use Rattle.table.proofs.Expand.{ends_pop, kind_met, kind_other}
-use Rattle.table.proofs.Leads.{ComesBy, left_kept, step_at_lem, step_few}
+use Rattle.table.proofs.Leads.{left_kept, step_by, step_few}
 use Rattle.table.proofs.steps.comes_to.Goals as goal
 
 pub returns-then-from-kind : goal.returns-then-from-kind
@@ -13,14 +13,10 @@ returns-else-from-kind c rest ends =
     kind_other c.args.symbol rest c.args.kind c.if-symbol-lt-NONTERMINAL.true (λ e. c.if-from-kind.false (c.from.ensures ∙ e))
 
 pub returns-in-0 : goal.returns-in-0
-returns-in-0 c =
-    subst (ComesBy c.args.symbol c.args.kind) (sym c.number.ensures ∙ c.in-0.is)
-    (step_at_lem c.args.symbol c.args.kind c.if-symbol-lt-NONTERMINAL.false c.requires.0 c.requires.1)
+returns-in-0 c = step_by c.if-symbol-lt-NONTERMINAL.false c.requires c.number.ensures c.in-0.is
 
 pub returns-in-1 : goal.returns-in-1
-returns-in-1 c =
-    subst (ComesBy c.args.symbol c.args.kind) (sym c.number.ensures ∙ c.in-1.is)
-    (step_at_lem c.args.symbol c.args.kind c.if-symbol-lt-NONTERMINAL.false c.requires.0 c.requires.1)
+returns-in-1 c = step_by c.if-symbol-lt-NONTERMINAL.false c.requires c.number.ensures c.in-1.is
 
 pub left_of-requires : goal.left_of-requires
 left_of-requires c =
@@ -31,6 +27,4 @@ left_of-requires c =
 pub returns-in_default : goal.returns-in_default
 returns-in_default c rest ends =
     let met : c.number.result ≡ suc (suc (c.number.result - 2)) = omega arith in
-    left_kept c.args.symbol c.args.kind _ c.left_of.result.now rest c.left_of.ensures ends
-    (subst (ComesBy c.args.symbol c.args.kind) (sym c.number.ensures ∙ met)
-    (step_at_lem c.args.symbol c.args.kind c.if-symbol-lt-NONTERMINAL.false c.requires.0 c.requires.1))
+    left_kept c.args.symbol c.args.kind _ c.left_of.result.now rest c.left_of.ensures ends (step_by c.if-symbol-lt-NONTERMINAL.false c.requires c.number.ensures met)

@@ -1,7 +1,6 @@
 -- The calls of a resolver are those of a service. Assumes nothing.
 use Rattle.std.proofs.Common.{◌≡◌, ℕ, ◌+◌, ◌^◌, ◌<◌, ◌≤◌, true, false, List, [], ◌++◌, length, is_some, Some, None, Ok, Err, Option, sym, refl, ap, ◌∙◌, subst, arith}
 use Rattle.std.proofs.lemmas.List.{append-nil}
-use Rattle.std.proofs.lemmas.Bool.{false≢true, true≢false}
 use Rattle.parser.specs.Meaning.{Alike, Meaning, started}
 use Rattle.parser.proofs.Meanings.{same_trans}
 use Rattle.sheet.specs.declared.fault.Fault.{Fault}
@@ -25,12 +24,10 @@ use Rattle.layout.proofs.SameRuns.{does_same}
 use Rattle.layout.proofs.Sheets.{took_none}
 
 some_number : (o : Option ℕ) → is_some o ≡ true → (n : ℕ) × (o ≡ Some n)
-some_number None e = absurd (false≢true e)
-some_number (Some n) e = (n, refl)
+some_number a b = grind arith
 
 no_number : (o : Option ℕ) → is_some o ≡ false → o ≡ None
-no_number None e = refl
-no_number (Some n) e = absurd (true≢false e)
+no_number a b = grind arith
 
 -- tokens that are none
 none_behind : (q : List Token) → q ≡ q ++ []

@@ -28,12 +28,10 @@ module _ (G H : Lists) (same : Same G H) where
   viable_back u k x = (x.0, (same (u ++ k ∷ x.0)).1 x.1)
 
   must_same : (u : List ℕ) (t : ℕ) (ks : List ℕ) → MustClose G u t ks → MustClose H u t ks
-  must_same u t [] m = elim m [ ]
-  must_same u t (k ∷ ks) m = (m.0, λ v. m.1 (viable_back u t v), viable_same u 4 m.2)
+  must_same a b c d = grind arith
 
   must_back : (u : List ℕ) (t : ℕ) (ks : List ℕ) → MustClose H u t ks → MustClose G u t ks
-  must_back u t [] m = elim m [ ]
-  must_back u t (k ∷ ks) m = (m.0, λ v. m.1 (viable_same u t v), viable_back u 4 m.2)
+  must_back a b c d = grind arith
 
   applies_same : {u : List ℕ} {m : Option Mark} {c : Coming} {ks : List ℕ} {r : Rule} → Applies G u m c ks r → Applies H u m c ks r
   applies_same (separate e) = separate e

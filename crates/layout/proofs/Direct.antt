@@ -1,5 +1,5 @@
 -- A lexeme that has no mark and is no brace, taken at once. Assumes nothing.
-use Rattle.std.proofs.Common.{◌≡◌, ℕ, ◌<◌, ◌≤◌, List, [], ◌∷◌, length, None as nothing, Ok, Err, refl, ap, ◌∙◌, arith}
+use Rattle.std.proofs.Common.{◌≡◌, ℕ, ◌<◌, ◌≤◌, List, [], length, None as nothing, Ok, Err, refl, ap, ◌∙◌, arith}
 use Rattle.parser.specs.Meaning.{Alike, Meaning, taken}
 use Rattle.parser.specs.Sets.{Begins, Lists}
 use Rattle.sheet.specs.declared.fault.Reason.{Reason}
@@ -18,12 +18,10 @@ use Rattle.layout.proofs.Running.{Running, running_new}
 
 -- no block closes before a viable kind, nor where the innermost is not implicit
 viable_stays : (G : Lists) (u : List ℕ) (t : ℕ) (ks : List ℕ) → Viable G u t → MustClose G u t ks → ⊥
-viable_stays G u t [] v m = m
-viable_stays G u t (k ∷ ks) v m = m.1 v
+viable_stays a b c d e f = grind arith
 
 explicit_stays : (G : Lists) (u : List ℕ) (t : ℕ) (ks : List ℕ) → (Implicit ks → ⊥) → MustClose G u t ks → ⊥
-explicit_stays G u t [] n m = m
-explicit_stays G u t (k ∷ ks) n m = n m.0
+explicit_stays a b c d e f = grind arith
 
 -- parsers that took nothing are as before
 pub took_same : (m n : Meaning) → Alike n m → Took [] m n

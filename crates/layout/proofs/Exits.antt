@@ -14,13 +14,12 @@ use Rattle.layout.specs.Drafts.{Bound, Laying, Step, contexts_of, laid, stopped,
 use Rattle.layout.specs.Layout.{kinds}
 use Rattle.layout.specs.Limits.{done, ends, is_undefined, refuses, undefined_at, writes}
 use Rattle.layout.specs.Marks.{column, inserted, kind}
-use Rattle.layout.specs.Rules.{Applies, block_left_open, close_at_end, close_on_error, close_shallower, close_typed, drop_deeper, drop_outside, empty_block, end, leaves, onward, open_block, open_typed, separate, stray_close, write_lexeme}
+use Rattle.layout.specs.Rules.{Applies, leaves, onward}
 use Rattle.layout.specs.declared.draft.Draft.{Draft}
 use Rattle.layout.specs.declared.rule.Coming.{Coming}
 use Rattle.layout.specs.declared.rule.Coming.TheVariants.{Lexeme as lexeme, End as ending}
 use Rattle.layout.specs.declared.rule.Mark.{Mark}
-use Rattle.layout.specs.declared.rule.Onward.{Onward}
-use Rattle.layout.specs.declared.rule.Onward.TheVariants.{Mark as at_mark, Lexeme as lexeme_written, End as ended, Undefined as undefined}
+use Rattle.layout.specs.declared.rule.Onward.TheVariants.{Lexeme as lexeme_written, End as ended, Undefined as undefined}
 use Rattle.layout.specs.declared.rule.Rule.{Rule}
 use Rattle.layout.proofs.Inserts.{step_goes, step_leaves, step_stops, step_takes}
 use Rattle.layout.proofs.Running.{Standing, after_on}
@@ -66,35 +65,11 @@ module _ (cs : List ℕ) (m₀ : Option Mark) (before : Meaning) (e : Draft) (m 
       (subst (λ (w : List ℕ). Alike now (after w before)) (sym (ap kinds (append-nil ts) ∙ kinds_inserted (ending p) u)) so.steps)
 
 -- where a rule writes the lexeme, one comes; where it reaches the end, none does
-abbrev way : Onward → ℕ
-way (at_mark m) = 0
-way lexeme_written = 1
-way ended = 2
-way undefined = 3
-
 pub no_lexeme : {G : Lists} {u : List ℕ} {m : Option Mark} {p : Place} {ks : List ℕ} {r : Rule} → Applies G u m (ending p) ks r → onward r ≡ lexeme_written → ⊥
-no_lexeme (separate e) on = omega (arith, ap way on)
-no_lexeme (close_shallower h) on = omega (arith, ap way on)
-no_lexeme (drop_deeper h) on = omega (arith, ap way on)
-no_lexeme drop_outside on = omega (arith, ap way on)
-no_lexeme (open_block h) on = omega (arith, ap way on)
-no_lexeme (empty_block h) on = omega (arith, ap way on)
-no_lexeme (close_at_end h) on = omega (arith, ap way on)
-no_lexeme end on = omega (arith, ap way on)
-no_lexeme (block_left_open e) on = omega (arith, ap way on)
+no_lexeme a b = grind arith
 
 no_end : {G : Lists} {u : List ℕ} {m : Option Mark} {l : Lexeme} {ks : List ℕ} {r : Rule} → Applies G u m (lexeme l) ks r → onward r ≡ ended → ⊥
-no_end (separate e) on = omega (arith, ap way on)
-no_end (close_shallower h) on = omega (arith, ap way on)
-no_end (drop_deeper h) on = omega (arith, ap way on)
-no_end drop_outside on = omega (arith, ap way on)
-no_end (open_block h) on = omega (arith, ap way on)
-no_end (empty_block h) on = omega (arith, ap way on)
-no_end (close_typed k x) on = omega (arith, ap way on)
-no_end (stray_close k x) on = omega (arith, ap way on)
-no_end (open_typed k) on = omega (arith, ap way on)
-no_end (close_on_error x y) on = omega (arith, ap way on)
-no_end (write_lexeme x y) on = omega (arith, ap way on)
+no_end a b = grind arith
 
 module _ (cs : List ℕ) (m₀ : Option Mark) (before : Meaning) (e : Draft) (m : Option Mark) (now : Meaning) (r : Rule) where
   pub written_at : (c : Coming) → Standing cs m₀ c before e m now → Applies before.remainder (tokens_of e) m c (contexts_of cs e) r → onward r ≡ lexeme_written → (next : Meaning) (f : Draft)

@@ -17,7 +17,6 @@ use Rattle.layout.specs.Service.{Does, Run, State, feeds, finishes, more, none}
 use Rattle.layout.specs.declared.call.Answer.TheVariants.{Count as count}
 use Rattle.layout.specs.declared.call.Call.TheVariants.{Feed as feed, Finish as finish}
 use Rattle.layout.specs.declared.rule.Before.{Before}
-use Rattle.layout.specs.declared.rule.Before.TheVariants.{Nothing, BlockKeyword, Other}
 use Rattle.layout.specs.declared.rule.Coming.TheVariants.{Lexeme as lexeme, End as ending}
 use Rattle.layout.specs.declared.rule.Mark.TheVariants.{Line}
 use Rattle.layout.proofs.Due.{due, due_following, no_block}
@@ -41,15 +40,12 @@ arrived here = (refl, refl)
 
 -- where no { is due, no mark stands before the end
 no_mark : (b : Before) → due b ≡ false → end_mark b ≡ None
-no_mark Nothing e = absurd (true≢false e)
-no_mark BlockKeyword e = absurd (true≢false e)
-no_mark Other e = refl
+no_mark a b = grind arith
 
 module _ (H : Lists) where
   -- an explicit block never has to close before a kind
   stays : (u : List ℕ) (k d : ℕ) → MustClose H u k (explicits d) → ⊥
-  stays u k zero m = m
-  stays u k (suc d) m = omega (arith, m.0)
+  stays a b c d = grind arith
 
   -- one kind is written
   takes : (u : List ℕ) (left k d : ℕ) → (k ≡ 3 → d < 64) → Viable H u k → 0 < left → (n : ℕ) × Goes H (length (explicits d)) u left (k ∷ []) (Ok n)

@@ -1,14 +1,14 @@
 -- Tokens inserted one after another. Assumes nothing.
-use Rattle.std.proofs.Common.{◌≡◌, ℕ, zero, suc, ◌+◌, ◌<◌, ◌≤◌, true, false, not, List, [], ◌∷◌, ◌++◌, map, length, get_or, take, drop, Ok, Err, Result, sym, refl, ap, ◌∙◌, subst, arith}
-use Rattle.std.proofs.lemmas.List.{append_assoc, append-nil, drop_all, drop-map, drop_more, get_or-map, length-map, take_all, take_more}
+use Rattle.std.proofs.Common.{◌≡◌, ℕ, zero, suc, ◌+◌, ◌<◌, ◌≤◌, true, false, not, List, [], ◌∷◌, ◌++◌, map, length, get_or, take, drop, Ok, Err, Result, sym, ap, ◌∙◌, subst, arith}
+use Rattle.std.proofs.lemmas.List.{append_assoc, drop_all, drop-map, drop_more, get_or-map, length-map, take_all, take_more}
 use Rattle.std.proofs.lemmas.Bool.{and_parts, not-true}
 use Rattle.parser.specs.Meaning.{Alike, Meaning, taken}
 use Rattle.parser.specs.Runs.{after}
 use Rattle.parser.proofs.Meanings.{begins_same, mark_trans, same_sym, same_trans}
-use Rattle.parser.proofs.Steps.{after_more, after_none}
+use Rattle.parser.proofs.Steps.{after_more}
 use Rattle.sheet.specs.declared.fault.Reason.{Reason}
 use Rattle.sheet.specs.declared.fault.Reason.TheVariants.{ReachSpent}
-use Rattle.layout.specs.Drafts.{AllClose, Inserted, Next, NextAll, Row, Step, drafted, is_separator, no_separator, not_viable, reach_spent, refused, taken_on, tokens_of, too_deep}
+use Rattle.layout.specs.Drafts.{AllClose, Inserted, NextAll, Row, Step, drafted, is_separator, no_separator, not_viable, reach_spent, refused, taken_on, tokens_of, too_deep}
 use Rattle.layout.specs.Limits.{Goes, done, goes, not_viable as goes_not_viable, reach_spent as goes_reach_spent, too_deep as goes_too_deep}
 use Rattle.layout.specs.Rules.{insert_kind}
 use Rattle.layout.specs.declared.draft.Draft.{Draft}
@@ -40,19 +40,13 @@ pub record Inserting (ts : List Insert) (depth : ℕ) (d : Draft) (from now : Me
   pub order : NextAll e (drop i ts)
   pub row : no_separator ts ≡ true → d.separator ≡ false → Row d e
 
-pub inserting_none : (ts : List Insert) (depth : ℕ) (d : Draft) (m : Meaning) → NextAll d ts → Inserting ts depth d m m d 0
-inserting_none ts depth d m order = record { steps = after_none m; goes = λ o g. g; tokens = sym (append-nil _); contexts = (refl, refl); order = order; row = λ n e. (e, refl) }
-
 -- only closes come behind the first
 close_next : (e : Draft) (ts : List Insert) → AllClose ts → NextAll e ts
-close_next e [] a = tt
-close_next e (t ∷ ts) a = (subst (Next e) (sym a.0) tt, a.1)
+close_next a b c = grind arith
 
 -- a refused token leaves the parser
 pub step_leaves : (kind depth : ℕ) (m n : Meaning) (why : Reason) → Step kind depth m n (Err why) → Alike n m
-step_leaves kind depth m n why (too_deep no_room same) = same
-step_leaves kind depth m n why (not_viable room not same) = same
-step_leaves kind depth m n why (reach_spent room begins none same) = same
+step_leaves a b c d e f = grind arith
 
 -- none of the tokens is a separator
 separator_at : (ts : List Insert) (i : ℕ) (t : Insert) → i < length ts → no_separator ts ≡ true → is_separator (get_or ts i t) ≡ false

@@ -1,7 +1,7 @@
 -- What comes is tried on a marked parser: accepted, refused, and taken back. Assumes nothing.
 use Rattle.std.proofs.Common.{◌≡◌, ℕ, ◌-◌, ◌<◌, ◌≤◌, List, [], ◌++◌, length, Ok, Err, Result, sym, ap, ◌∙◌, subst, arith, Option}
 use Rattle.std.proofs.lemmas.List.{append-nil}
-use Rattle.parser.specs.Meaning.{Alike, Mark as Held, Meaning, SameMark, absent, holds, kept, marked, restored, returned}
+use Rattle.parser.specs.Meaning.{Alike, Mark as Held, Meaning, SameMark, holds, kept, marked, restored, returned}
 use Rattle.parser.specs.Runs.{after as after_kinds}
 use Rattle.parser.specs.Sets.{Lists, Same}
 use Rattle.parser.proofs.Meanings.{mark_trans, same_sym, same_trans}
@@ -50,8 +50,7 @@ module _ (cs : List ℕ) (m : Option Mark) (c : Coming) (free : ℕ) (before now
 
 -- over a language with the same lists all is tried alike
 whole_same : {A R : Lists} (c : Coming) (x : Laid) → Same A R → Whole A c x → Whole R c x
-whole_same (lexeme l) x same w = tt
-whole_same (ending p) x same w = (same (kinds x.tokens)).0 w
+whole_same a b c d = grind arith
 
 pub tries_same : {A R : Lists} {left : ℕ} {ks : List ℕ} {m : Option Mark} {c : Coming} {free : ℕ} {o : Result Laid Reason} → Same A R → Tries A left ks m c free o → Tries R left ks m c free o
 tries_same {A} {R} {c = c} same (Tries.fits {x = x} r w f) = Tries.fits (runs_at A R [] same r) (whole_same c x same w) f
@@ -76,8 +75,7 @@ module _ (cs : List ℕ) (m : Option Mark) (c : Coming) (free : ℕ) (before mid
       })
 
   back_to : (held : Held) → SameMark held (holds before.remainder before.left) → (n : Meaning) → Alike n (restored held now) → Same n.remainder before.remainder × (n.left ≡ before.left) × Same n.language now.language × (n.reach ≡ now.reach)
-  back_to absent is n end = elim is [ ]
-  back_to (holds A k) is n end = (same_trans end.remainder is.0, end.left ∙ is.1, end.language, end.reach)
+  back_to a b c d = grind arith
 
   -- what was refused is taken back
   pub moved_back : (why : Reason) → Attempts cs m c free mid now (Err why) → Alike last (returned now) → Moves cs m c free before last (Err why)

@@ -1,7 +1,7 @@
 -- The rules on their way over what comes. Assumes nothing.
-use Rattle.std.proofs.Common.{◌≡◌, ℕ, ◌+◌, ◌*◌, ◌<◌, ◌≤◌, Bool, true, false, ◌⊎◌, List, [], ◌∷◌, ◌++◌, map, length, is_some, None as none, Ok, Err, Result, sym, refl, ap, ◌∙◌, subst, inl, inr, ⊎_elim, arith, length-append, Option, Some}
+use Rattle.std.proofs.Common.{◌≡◌, ℕ, ◌+◌, ◌*◌, ◌<◌, ◌≤◌, Bool, true, false, ◌⊎◌, List, [], ◌++◌, map, length, is_some, None as none, Ok, Err, Result, sym, refl, ap, ◌∙◌, subst, inl, inr, ⊎_elim, arith, length-append, Option, Some}
 use Rattle.std.proofs.lemmas.List.{append_assoc, append-nil, map-append}
-use Rattle.std.proofs.lemmas.Bool.{cases_Bool, false≢true, true≢false}
+use Rattle.std.proofs.lemmas.Bool.{cases_Bool, false≢true}
 use Rattle.parser.specs.Meaning.{Alike, Meaning}
 use Rattle.parser.specs.Runs.{after}
 use Rattle.parser.specs.Sets.{Lists}
@@ -13,7 +13,7 @@ use Rattle.layout.specs.Contexts.{stack, stacked}
 use Rattle.layout.specs.Drafts.{empty, Bound, Inserted, Laying, NextAll, Row, contexts_of, drafted, no_separator, refused, stopped, tokens_of, with_opened}
 use Rattle.layout.specs.Limits.{Goes, Laid, Runs, and_before, goes_on, stops}
 use Rattle.layout.specs.Marks.{Fitting, column, inserted, kind}
-use Rattle.layout.specs.Rules.{Applies, block_left_open, close_at_end, close_on_error, close_shallower, close_typed, drop_deeper, drop_outside, empty_block, end, inserting, inserts, insert_kind, leaves, onward, open_block, open_typed, opening, separate, stray_close, write_lexeme}
+use Rattle.layout.specs.Rules.{Applies, inserting, inserts, insert_kind, leaves, onward, opening}
 use Rattle.layout.specs.declared.draft.Draft.{Draft}
 use Rattle.layout.specs.declared.rule.Coming.{Coming}
 use Rattle.layout.specs.declared.rule.Mark.{Mark}
@@ -34,20 +34,7 @@ Phase (Some Block) d = (d.brace ≡ false) × (d.closes ≡ 0) × (d.separator �
 
 -- so the tokens of the rule that applies can be inserted
 pub phase_next : {G : Lists} {u : List ℕ} {m : Option Mark} {c : Coming} {ks : List ℕ} {r : Rule} (d : Draft) → Applies G u m c ks r → Phase m d → NextAll d (inserting r)
-phase_next d (separate e) p = (p, tt)
-phase_next d (close_shallower h) p = (tt, tt)
-phase_next d (drop_deeper h) p = tt
-phase_next d drop_outside p = tt
-phase_next d (open_block h) p = ((p.0, p.1, p.2, p.3), tt)
-phase_next d (empty_block h) p = ((p.0, p.1, p.2, p.3), (refl, tt))
-phase_next d (close_typed k x) p = tt
-phase_next d (stray_close k x) p = tt
-phase_next d (open_typed k) p = tt
-phase_next d (close_on_error x y) p = (tt, tt)
-phase_next d (write_lexeme x y) p = tt
-phase_next d (close_at_end h) p = (tt, tt)
-phase_next d end p = tt
-phase_next d (block_left_open e) p = tt
+phase_next a b c = grind arith
 
 -- tokens that the rules may still insert at a mark
 abbrev pub weight : Option Mark → ℕ
@@ -108,54 +95,11 @@ rank (Some Block) = 5
 
 -- each rule leaves fewer
 pub rule_rank : {G : Lists} {u : List ℕ} {m : Option Mark} {c : Coming} {ks : List ℕ} {r : Rule} → Applies G u m c ks r → at_some (onward r) ≡ true → 3 * length (leaves r (column c) ks) + rank (mark_in (onward r)) < 3 * length ks + rank m
-rule_rank (separate e) on = omega arith
-rule_rank (close_shallower h) on = omega arith
-rule_rank (drop_deeper h) on = omega arith
-rule_rank drop_outside on = omega arith
-rule_rank (open_block h) on = omega arith
-rule_rank (empty_block h) on = omega arith
-rule_rank (close_typed k x) on = absurd (false≢true on)
-rule_rank (stray_close k x) on = absurd (false≢true on)
-rule_rank (open_typed k) on = absurd (false≢true on)
-rule_rank (close_on_error {ks = []} p x) on = elim x [ ]
-rule_rank (close_on_error {ks = k ∷ ks} p x) on = omega arith
-rule_rank (write_lexeme p x) on = absurd (false≢true on)
-rule_rank (close_at_end h) on = omega arith
-rule_rank end on = absurd (false≢true on)
-rule_rank (block_left_open e) on = absurd (false≢true on)
-
--- at most two tokens are inserted by one rule
-pub inserting_few : (r : Rule) → length (inserting r) ≤ 2
-inserting_few Separate = omega arith
-inserting_few CloseShallower = omega arith
-inserting_few DropMark = omega arith
-inserting_few OpenBlock = omega arith
-inserting_few EmptyBlock = omega arith
-inserting_few CloseTyped = omega arith
-inserting_few StrayClose = omega arith
-inserting_few OpenTyped = omega arith
-inserting_few CloseOnError = omega arith
-inserting_few WriteLexeme = omega arith
-inserting_few CloseAtEnd = omega arith
-inserting_few End = omega arith
-inserting_few BlockLeftOpen = omega arith
+rule_rank a b = grind arith
 
 -- a rule opens a block only where the call has opened none
 pub single_open : {G : Lists} {u : List ℕ} {m : Option Mark} {c : Coming} {ks : List ℕ} {r : Rule} (d : Draft) → Applies G u m c ks r → Phase m d → (is_some d.opened ≡ true → kind c ≡ 3 → ⊥) → opening r ≡ true → is_some d.opened ≡ false
-single_open d (separate e) p b o = absurd (false≢true o)
-single_open d (close_shallower h) p b o = absurd (false≢true o)
-single_open d (drop_deeper h) p b o = absurd (false≢true o)
-single_open d drop_outside p b o = absurd (false≢true o)
-single_open d (open_block h) p b o = p.4
-single_open d (empty_block h) p b o = absurd (false≢true o)
-single_open d (close_typed k x) p b o = absurd (false≢true o)
-single_open d (stray_close k x) p b o = absurd (false≢true o)
-single_open d (open_typed k) p b o = ⊎_elim (λ e. absurd (b e k)) (λ e. e) (cases_Bool (is_some d.opened))
-single_open d (close_on_error x y) p b o = absurd (false≢true o)
-single_open d (write_lexeme x y) p b o = absurd (false≢true o)
-single_open d (close_at_end h) p b o = absurd (false≢true o)
-single_open d end p b o = absurd (false≢true o)
-single_open d (block_left_open e) p b o = absurd (false≢true o)
+single_open a b c d e = grind arith
 
 -- and that is so also when its tokens are inserted
 pub still_single : {G : Lists} {u : List ℕ} {m : Option Mark} {c : Coming} {ks : List ℕ} {r : Rule} {ts : List Insert} {n : ℕ} {now next : Meaning} (d e : Draft) → Applies G u m c ks r → Phase m d → (is_some d.opened ≡ true → kind c ≡ 3 → ⊥) → Inserted ts n d now next (Ok e)
@@ -168,71 +112,19 @@ inserted_contexts cs d e (drafted g x tokens depth opened row) = λ i. with_open
 
 -- what a rule leaves of what may still be inserted
 rule_weight : {G : Lists} {u : List ℕ} {m : Option Mark} {c : Coming} {ks : List ℕ} {r : Rule} → Applies G u m c ks r → at_some (onward r) ≡ true → length (inserts r) + length (leaves r (column c) ks) + weight (mark_in (onward r)) ≤ length ks + weight m
-rule_weight (separate e) on = omega arith
-rule_weight (close_shallower h) on = omega arith
-rule_weight (drop_deeper h) on = omega arith
-rule_weight drop_outside on = omega arith
-rule_weight (open_block h) on = omega arith
-rule_weight (empty_block h) on = omega arith
-rule_weight (close_typed k x) on = absurd (false≢true on)
-rule_weight (stray_close k x) on = absurd (false≢true on)
-rule_weight (open_typed k) on = absurd (false≢true on)
-rule_weight (close_on_error {ks = []} p x) on = elim x [ ]
-rule_weight (close_on_error {ks = k ∷ ks} p x) on = omega arith
-rule_weight (write_lexeme p x) on = absurd (false≢true on)
-rule_weight (close_at_end h) on = omega arith
-rule_weight end on = absurd (false≢true on)
-rule_weight (block_left_open e) on = absurd (false≢true on)
+rule_weight a b = grind arith
 
 -- what a draft may have inserted at the next mark
 phase_after : {G : Lists} {u : List ℕ} {m : Option Mark} {c : Coming} {ks : List ℕ} {r : Rule} (d e : Draft) → Applies G u m c ks r → Phase m d → (no_separator (inserting r) ≡ true → d.separator ≡ false → Row d e) → Phase (mark_in (onward r)) e
-phase_after d e (separate x) p row = tt
-phase_after d e (close_shallower h) p row = let kept = row refl p.0 in (kept.0, kept.1 ∙ p.1)
-phase_after d e (drop_deeper h) p row = tt
-phase_after d e drop_outside p row = tt
-phase_after d e (open_block h) p row = tt
-phase_after d e (empty_block h) p row = let kept = row refl p.2 in (kept.0, kept.1 ∙ p.3)
-phase_after d e (close_typed k x) p row = tt
-phase_after d e (stray_close k x) p row = tt
-phase_after d e (open_typed k) p row = tt
-phase_after d e (close_on_error x y) p row = tt
-phase_after d e (write_lexeme x y) p row = tt
-phase_after d e (close_at_end h) p row = tt
-phase_after d e end p row = tt
-phase_after d e (block_left_open x) p row = tt
+phase_after a b c d e = grind arith
 
 -- a block is due before none but the first rule
 fitting_after : (r : Rule) (c : Coming) → Fitting (mark_in (onward r)) c
-fitting_after Separate c = tt
-fitting_after CloseShallower c = tt
-fitting_after DropMark c = tt
-fitting_after OpenBlock c = tt
-fitting_after EmptyBlock c = tt
-fitting_after CloseTyped c = tt
-fitting_after StrayClose c = tt
-fitting_after OpenTyped c = tt
-fitting_after CloseOnError c = tt
-fitting_after WriteLexeme c = tt
-fitting_after CloseAtEnd c = tt
-fitting_after End c = tt
-fitting_after BlockLeftOpen c = tt
+fitting_after a b = grind arith
 
 -- a rule that opens a block and goes on stands at the mark of one
 opens_at_block : {G : Lists} {u : List ℕ} {m : Option Mark} {c : Coming} {ks : List ℕ} {r : Rule} → Applies G u m c ks r → at_some (onward r) ≡ true → Fitting m c → opening r ≡ true → kind c ≡ 3 → ⊥
-opens_at_block (separate e) on f o = absurd (false≢true o)
-opens_at_block (close_shallower h) on f o = absurd (false≢true o)
-opens_at_block (drop_deeper h) on f o = absurd (false≢true o)
-opens_at_block drop_outside on f o = absurd (false≢true o)
-opens_at_block (open_block h) on f o = f
-opens_at_block (empty_block h) on f o = absurd (false≢true o)
-opens_at_block (close_typed k x) on f o = absurd (false≢true o)
-opens_at_block (stray_close k x) on f o = absurd (false≢true o)
-opens_at_block (open_typed k) on f o = absurd (false≢true on)
-opens_at_block (close_on_error x y) on f o = absurd (false≢true o)
-opens_at_block (write_lexeme x y) on f o = absurd (false≢true o)
-opens_at_block (close_at_end h) on f o = absurd (false≢true o)
-opens_at_block end on f o = absurd (false≢true o)
-opens_at_block (block_left_open e) on f o = absurd (false≢true o)
+opens_at_block a b c d = grind arith
 
 -- tokens before tokens
 before_twice : (a b : List Token) (o : Result Laid Reason) → and_before a (and_before b o) ≡ and_before (a ++ b) o
@@ -307,19 +199,7 @@ module _ (cs : List ℕ) (m₀ : Option Mark) (c : Coming) (before : Meaning) wh
 
 -- a rule that goes on at no mark inserts nothing
 none_inserted : (r : Rule) → at_some (onward r) ≡ false → inserting r ≡ []
-none_inserted Separate e = absurd (true≢false e)
-none_inserted CloseShallower e = absurd (true≢false e)
-none_inserted DropMark e = refl
-none_inserted OpenBlock e = absurd (true≢false e)
-none_inserted EmptyBlock e = absurd (true≢false e)
-none_inserted CloseTyped e = refl
-none_inserted StrayClose e = refl
-none_inserted OpenTyped e = refl
-none_inserted CloseOnError e = absurd (true≢false e)
-none_inserted WriteLexeme e = refl
-none_inserted CloseAtEnd e = absurd (true≢false e)
-none_inserted End e = refl
-none_inserted BlockLeftOpen e = refl
+none_inserted a b = grind arith
 
 module _ (cs : List ℕ) (m₀ : Option Mark) (c : Coming) (before : Meaning) (d : Draft) (m : Option Mark) (now : Meaning) (r : Rule) (so : Running cs m₀ c before d m now) (a : Applies now.remainder [] m c (contexts_of cs d) r) (next : Meaning) (e : Draft) where
   -- where nothing is inserted, all stands as before
@@ -345,18 +225,13 @@ module _ (cs : List ℕ) (m₀ : Option Mark) (c : Coming) (before : Meaning) (d
 
 -- nothing is done yet
 before_nothing : (o : Result Laid Reason) → o ≡ and_before [] o
-before_nothing (Ok x) = refl
-before_nothing (Err why) = refl
+before_nothing a = grind arith
 
 phase_new : (m : Option Mark) (d : Draft) → Phase (Some Block) d → Phase m d
-phase_new none d p = tt
-phase_new (Some Line) d p = (p.2, p.3)
-phase_new (Some Block) d p = p
+phase_new a b c = grind arith
 
 weight_few : (m : Option Mark) → weight m ≤ 3
-weight_few none = omega arith
-weight_few (Some Line) = omega arith
-weight_few (Some Block) = omega arith
+weight_few a = grind arith
 
 pub running_new : (cs : List ℕ) (m : Option Mark) (c : Coming) (before : Meaning) → length cs ≤ 64 → Fitting m c → Running cs m c before (empty (length cs)) m before
 running_new cs m c before small fitting =

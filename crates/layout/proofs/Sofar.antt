@@ -35,8 +35,7 @@ why_in (Ok x) d = d
 why_in (Err w) d = w
 
 stopped_in : (ts : List Token) (o : Result Laid Reason) (why : Reason) → and_before ts o ≡ Err why → o ≡ Err why
-stopped_in ts (Ok x) why e = absurd (true≢false (ap is_ok e))
-stopped_in ts (Err w) why e = e
+stopped_in a b c d = grind arith
 
 -- the kinds of inserted tokens and of what follows
 regroup : (u w : List ℕ) (p : Place) (out : List Token) → u ++ kinds (map (inserted (ending p)) w ++ out) ≡ (u ++ w) ++ kinds out

@@ -2,7 +2,7 @@
 use Rattle.std.proofs.Common.{◌≡◌, ℕ, zero, suc, ◌+◌, ◌<◌, ◌≤◌, Bool, true, false, cond, eqb, ltb, List, [], ◌∷◌, ◌++◌, length, get_or, take, drop, is_some, Some, None, Option, sym, refl, ap, ◌∙◌, add-one, arith, length-append, length-take}
 use Rattle.std.proofs.Math.Seq.{get_or-append_seam}
 use mir.Val.{bool_byte}
-use Rattle.std.proofs.lemmas.Bool.{cond_both, eq-eqb, eqb-true, false≢true, ltb-false, ltb-true, ne_eqb, true≢false}
+use Rattle.std.proofs.lemmas.Bool.{cond_both, eq-eqb, eqb-true, ltb-false, ltb-true, ne_eqb, true≢false}
 use Rattle.std.proofs.lemmas.List.{get_or_append_left, take-append-drop, take_all}
 use Rattle.std.proofs.lemmas.List.Sums.{count_by_more_no, count_by_more_yes, length-filter}
 use Rattle.std.specs.List.{count_by, filter}
@@ -15,8 +15,7 @@ length_stack cs (suc d) = ap suc (length_stack cs d)
 
 -- one that was opened is one more
 pub opened_length : (o : Option ℕ) (ks : List ℕ) → length (with_opened o ks) ≡ length ks + bool_byte (is_some o)
-opened_length None ks = omega arith
-opened_length (Some k) ks = omega arith
+opened_length a b = grind arith
 
 -- contexts behind the first do not show
 pub stack_front : (xs ys : List ℕ) (d : ℕ) → d ≤ length xs → stack (xs ++ ys) d ≡ stack xs d
@@ -37,8 +36,7 @@ stacked_push cs v =
 
 -- an open sheet may have any contexts
 pub idle_open : (o : Option ℕ) (cs : List ℕ) → is_some o ≡ true → idle o cs ≡ true
-idle_open None cs e = absurd (false≢true e)
-idle_open (Some n) cs e = refl
+idle_open a b c = grind arith
 
 -- no more blocks are implicit than there are
 pub implicit_few : (ks : List ℕ) → implicit_among ks ≤ length ks

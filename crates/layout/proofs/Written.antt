@@ -1,20 +1,17 @@
 -- The tokens of a draft, counted and written one after another. Assumes nothing.
-use Rattle.std.proofs.Common.{◌≡◌, ℕ, ◌+◌, Bool, true, false, not, List, [], ◌∷◌, ◌++◌, map, length, replicate, refl, ap, ◌∙◌, arith, length-append}
+use Rattle.std.proofs.Common.{◌≡◌, ℕ, ◌+◌, Bool, List, ◌++◌, map, length, replicate, ap, ◌∙◌, arith, length-append}
 use lib.LanesLaws.{map-replicate}
 use lib.ListN.{length-replicate}
 use mir.Val.{bool_byte}
-use Rattle.std.proofs.lemmas.List.{append_assoc, length-map, map-append}
-use Rattle.sheet.specs.Tokens.{written}
-use Rattle.layout.specs.Drafts.{drafted_tokens, if_set, tokens_of}
-use Rattle.layout.specs.Marks.{inserted, is_end}
+use Rattle.std.proofs.lemmas.List.{append_assoc, map-append}
+use Rattle.layout.specs.Drafts.{if_set, tokens_of}
+use Rattle.layout.specs.Marks.{inserted}
 use Rattle.layout.specs.declared.draft.Draft.{Draft}
 use Rattle.layout.specs.declared.rule.Coming.{Coming}
-use Rattle.layout.specs.declared.rule.Coming.TheVariants.{Lexeme as lexeme, End as ending}
 
 -- a token or none, by its count
 pub flag_count : (b : Bool) (k : ℕ) → if_set b k ≡ replicate (bool_byte b) k
-flag_count true k = refl
-flag_count false k = refl
+flag_count a b = grind arith
 
 -- how many tokens a draft inserts
 pub count_tokens : (d : Draft) → length (tokens_of d) ≡ bool_byte d.brace + d.closes + bool_byte d.separator + d.closes_after
@@ -35,11 +32,6 @@ count_tokens d =
       length-replicate {A = ℕ} (bool_byte d.brace) 3,
       length-replicate {A = ℕ} (bool_byte d.separator) 5,
     )
-
--- how many tokens are written of the end, and of a lexeme
-pub count_drafted : (c : Coming) (d : Draft) → length (drafted_tokens c d) ≡ length (tokens_of d) + bool_byte (not (is_end c))
-count_drafted (lexeme l) d = omega (arith, length-append (map (inserted (lexeme l)) (tokens_of d)) (written l ∷ []), length-map (tokens_of d) (inserted (lexeme l)))
-count_drafted (ending p) d = omega (arith, length-map (tokens_of d) (inserted (ending p)))
 
 -- the tokens that a draft inserts, part by part
 pub inserted_parts : (c : Coming) (d : Draft) → map (inserted c) (tokens_of d) ≡ replicate (bool_byte d.brace) (inserted c 3) ++ (replicate d.closes (inserted c 4) ++ (replicate (bool_byte d.separator) (inserted c 5) ++ replicate d.closes_after (inserted c 4)))

@@ -18,10 +18,7 @@ fn main(rt: HostRuntime) -> io::Result<()> {
             let bytes = listing(rt.alloc(), &text, &outcome)?;
             rt.stdout().write_all(&bytes)
         }
-        Err(Failure::TooLong) => {
-            let number = TooLong.number();
-            println!(rt; "0 0 0 {number} -")
-        }
+        Err(Failure::TooLong) => println!(rt; "{TooLong}"),
         Err(Failure::NoMemory) => Err(io::ErrorKind::OutOfMemory.into()),
     }
 }

@@ -64,10 +64,7 @@ fn write_sheet<W: Write>(
             let bytes = listing(heap, text, &outcome)?;
             out.write_all(&bytes)?;
         }
-        Err(Failure::TooLong) => {
-            let number = TooLong.number();
-            writeln!(out, "0 0 0 {number} -")?;
-        }
+        Err(Failure::TooLong) => writeln!(out, "{TooLong}")?,
         Err(Failure::NoMemory) => return Err(AllocError.into()),
     }
     Ok(())

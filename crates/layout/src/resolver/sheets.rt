@@ -26,7 +26,9 @@ fn is_good(lexeme: &Lexeme) -> bool
 }
 
 impl<P> Resolver<P> {
-    // Closes the sheet, with all its blocks.
+    // Closes the sheet, with all its blocks. What is taken out of an `ArrayVec` is written over in a loop: here and below
+    // it is kept out of the callers' code, where it makes most feeds longer.
+    #[inline(never)]
     pub(super) fn close(&mut self)
         ensures standing { standing self.new ≡ shut (standing self.old) }
         ensures parser { self.new.parser ≡ self.old.parser }
@@ -43,6 +45,7 @@ impl<P> Resolver<P> {
     }
 
     // Puts the contexts that a draft leaves in the place of the present ones.
+    #[inline(never)]
     fn settle(&mut self, draft: Draft)
         requires within { draft.depth ≤ array_vec_len self.old.contexts }
         requires room { length (contexts_of self.old.contexts.items draft) ≤ 64 }

@@ -6,6 +6,7 @@ ghost use Rattle.whole.specs.Whole.{outcome, verdict};
 use super::Kept;
 use crate::keeper::Keeper;
 use crate::outcome::Outcome;
+use layout::drain;
 use queue::Queue;
 use sheet::{Fault, Token};
 use std::alloc::{AllocError, Global};
@@ -43,10 +44,7 @@ impl Keeper for Kept {
     type Error = AllocError;
 
     fn tokens(&mut self, queue: &mut Queue<'_, Token>) -> Result<(), AllocError> {
-        while let Some(token) = queue.take() {
-            self.tokens.push(token)?;
-        }
-        Ok(())
+        drain(queue, &mut self.tokens)
     }
 
     // Unless there are enough.

@@ -1,19 +1,20 @@
 -- What a reading adds to the number. Assumes nothing.
-use Rattle.std.proofs.Common.{◌≡◌, ℕ, zero, suc, ◌+◌, ◌%◌, ◌^◌, ◌<◌, List, [], ◌∷◌, ◌++◌, map, length, Some, None, Ok, Err, sum_by, Option, sym, refl, ap, ◌∙◌, add_assoc, zero-add, arith}
+use Rattle.std.proofs.Common.{◌≡◌, ℕ, ◌+◌, ◌%◌, ◌^◌, ◌<◌, List, [], ◌∷◌, ◌++◌, map, length, Some, None, Ok, Err, sum_by, Option, sym, refl, ap, ◌∙◌, add_assoc, zero-add, arith}
 use native.Mathlib.Nat.{mod-add-mod}
 use Rattle.std.proofs.lemmas.List.Sums.{sum_by-append, sum_by-cons}
 use Rattle.queue.specs.Waiting.{room, waiting}
 use Rattle.queue.specs.declared.ring.Queue.{Queue}
 use Rattle.sheet.specs.declared.lexeme.Lexeme.{Lexeme}
-use Rattle.reader.specs.Items.{Item, good, bad, items}
+use Rattle.reader.specs.Items.{items}
 use Rattle.reader.specs.Laws.{tell, tell_stop, tells}
-use Rattle.reader.specs.Reading.{answer, answer_of, offset_of, reading, reads, text_of}
+use Rattle.reader.specs.Reading.{answer, offset_of, reads, text_of}
 use Rattle.reader.specs.declared.reader.Reader.{Reader}
 use Rattle.reader.specs.declared.stop.Stop.{Stop}
 use Rattle.reader.specs.declared.stop.Stop.TheVariants.{Fault as at_fault, Full as at_full}
 use Rattle.reader.proofs.Chains.{chain}
 use Rattle.reader.proofs.Finds.{ends}
 use Rattle.reader.proofs.Pieces.{piece}
+use Rattle.whole.proofs.Reading.{comes_to_end, err_stops, ok_stops}
 use Rattle.speed.specs.Sums.{stop_weight, weight}
 
 -- what lexemes add, and what is left of a text from an offset on
@@ -43,25 +44,9 @@ divides r q =
 pub settled : (sum rest x : ℕ) → rest ≡ 0 → sum < 2 ^ 64 → (sum + rest) % 2 ^ 64 ≡ x → sum ≡ x
 settled sum rest x none fits e = omega arith
 
--- why a reading stopped, by its answer
-pub stop_none : (m n : ℕ) (s : Option Stop) → Ok m ≡ answer_of n s → s ≡ None
-stop_none m n None e = refl
-stop_none m n (Some s) e = let z : ◌≡◌ {A = ℕ} 0 1 = cc in absurd (omega arith)
-
-pub stop_some : (x : Stop) (n : ℕ) (s : Option Stop) → Err x ≡ answer_of n s → s ≡ Some x
-stop_some x n None e = let z : ◌≡◌ {A = ℕ} 0 1 = cc in absurd (omega arith)
-stop_some x n (Some s) e = cc
-
 one_stop : (x : Stop) → stop_weight x ≡ of_stop (Some x)
 one_stop (at_fault f) = sym (zero-add (weight (Err f)))
 one_stop (at_full f) = refl
-
--- a reading that did not stop came to the end
-pub came_to_end : (end free : ℕ) (xs : List Item) → (reading end free xs).stop ≡ None → (reading end free xs).next ≡ end
-came_to_end end free [] e = refl
-came_to_end end free (bad i n f ∷ xs) e = let z : ◌≡◌ {A = ℕ} 0 1 = cc in absurd (omega arith)
-came_to_end end zero (good l ∷ xs) e = let z : ◌≡◌ {A = ℕ} 0 1 = cc in absurd (omega arith)
-came_to_end end (suc free) (good l ∷ xs) e = came_to_end end free xs e
 
 module _ (r : Reader) (q : Queue Lexeme) (empty : waiting q ≡ []) (ls : List Lexeme) (put : ls ≡ waiting q ++ (reads r q).put) (before sum : ℕ) (added : sum ≡ (before + of_lexemes ls) % 2 ^ 64) where
   -- after a reading whose lexemes are added
@@ -77,8 +62,8 @@ module _ (r : Reader) (q : Queue Lexeme) (empty : waiting q ≡ []) (ls : List L
   pub at_end : (m : ℕ) → Ok m ≡ answer (reads r q) → sum ≡ (before + of_rest (text_of r) (offset_of r)) % 2 ^ 64
   at_end m e =
       let t = text_of r in
-      let none = stop_none m (length (reads r q).put) (reads r q).stop e in
-      let end = came_to_end (length t) (room q) (items t (offset_of r)) none in
+      let none = ok_stops (length (reads r q).put) m (reads r q).stop e in
+      let end = comes_to_end (length t) (room q) (items t (offset_of r)) none in
       let nothing : of_rest t (reads r q).next ≡ 0 = ap (λ xs. sum_by weight (map tell xs)) (ap (items t) end ∙ (ends t (length t) refl).none) in
       settled sum (0 + of_rest t (reads r q).next) _ (omega arith) (omega arith) (after None none)
 
@@ -87,4 +72,4 @@ module _ (r : Reader) (q : Queue Lexeme) (empty : waiting q ≡ []) (ls : List L
   at_stop x w is e =
       let rest = of_rest (text_of r) (reads r q).next in
       mod-add-mod (sum + w) (2 ^ 64) rest ∙ ap (λ n. n % 2 ^ 64) (add_assoc sum w rest ∙ ap (λ n. sum + (n + rest)) (is ∙ one_stop x))
-      ∙ after (Some x) (stop_some x (length (reads r q).put) (reads r q).stop e)
+      ∙ after (Some x) (err_stops (length (reads r q).put) x (reads r q).stop e)

@@ -1,40 +1,23 @@
 -- The end of a sheet on a resolver. Assumes nothing.
-use Rattle.std.proofs.Common.{◌≡◌, ℕ, Bool, true, false, cond, List, [], ◌∷◌, ◌++◌, take, is_ok, Some, None, Ok, Err, Result, sym, refl, ap, ◌∙◌, subst, arith}
+use Rattle.std.proofs.Common.{◌≡◌, ℕ, Bool, true, false, cond, List, [], ◌∷◌, ◌++◌, take, Some, Ok, Err, sym, refl, ap, ◌∙◌, subst, arith}
 use Rattle.std.proofs.lemmas.List.{append-nil}
 use Rattle.parser.specs.Meaning.{Meaning}
 use Rattle.parser.specs.Sets.{Lists}
 use Rattle.sheet.specs.declared.fault.Fault.{Fault}
 use Rattle.sheet.specs.declared.lexeme.Place.{Place}
 use Rattle.sheet.specs.declared.lexeme.Token.{Token}
-use Rattle.layout.specs.Calling.{Stand, anew, Calls, give_up_answer, over, shut, Writes}
-use Rattle.layout.specs.Service.{Does, State, finish_fails, finishes, give_up_fails, gives_up}
+use Rattle.layout.specs.Calling.{anew, Calls, over, shut, Writes}
+use Rattle.layout.specs.Service.{Does, State, finish_fails, gives_up}
 use Rattle.layout.specs.declared.call.Answer.TheVariants.{Count as count, Closed as closed, Refused as refused}
 use Rattle.layout.specs.declared.call.Call.TheVariants.{Finish as finish, GiveUp as give_up}
-use Rattle.layout.specs.declared.ticket.Refusal.{Refusal}
-use Rattle.whole.specs.Feeding.{Closes, EndsWith, Keeps, Ran, SameParser, Shut}
+use Rattle.whole.specs.Feeding.{Closes, EndsWith, Keeps, Ran}
 use Rattle.whole.specs.Keeping.{Gains, Keeping, some}
 use Rattle.whole.specs.Whole.{Ends, all_faults, all_tokens, end_of, finished, given_up, most_faults, places, told, unfinished}
 use Rattle.whole.specs.declared.progress.Progress.{Progress}
 use Rattle.whole.proofs.Behind.{behind, ends_behind}
-use Rattle.whole.proofs.Feeds.{same_on}
-
--- the open sheet can be given up
-pub can_give_up : {G : Lists} {reach : ℕ} {s : State} {t : ℕ} {us : List Token} {s' : State} (r : Result (Unit {0}) Refusal) → s.sheet ≡ Some t → Does G reach s (give_up t) (give_up_answer r) us s' → is_ok r ≡ true
-can_give_up (Ok x) e d = refl
-can_give_up (Err f) e (give_up_fails n) = absurd (n e)
 
 gives : {G : Lists} {reach : ℕ} {s : State} {t : ℕ} {us : List Token} {s' : State} → Does G reach s (give_up t) closed us s' → s' ≡ shut s
 gives (gives_up e) = refl
-
-pub gives_shut : {m n : Meaning} {s s' : State} {t : ℕ} {us : List Token} → Calls (over m s) (give_up t) closed us (over n s') → Shut (over m s) (over n s')
-gives_shut c = record { parser = record { language = c.parser.language; reach = c.parser.reach }; sheet = ap (λ (z : State). z.sheet) (c.state ∙ ap anew (gives c.does)) }
-
--- a finish that is accepted closes the sheet
-finish_closes : {G : Lists} {reach : ℕ} {s : State} {t : ℕ} {p : Place} {free k : ℕ} {us : List Token} {s' : State} → Does G reach s (finish t p free) (count k) us s' → s'.sheet ≡ None
-finish_closes (finishes e r g f) = refl
-
-pub finish_shut : {m n : Meaning} {s s' : State} {t : ℕ} {p : Place} {free k : ℕ} {q q' : List Token} → Writes (over m s) (finish t p free) (count k) q q' (over n s') → Shut (over m s) (over n s')
-finish_shut x = let c = x.calls in record { parser = record { language = c.parser.language; reach = c.parser.reach }; sheet = ap (λ (z : State). z.sheet) c.state ∙ finish_closes c.does }
 
 -- one that is refused leaves it open
 finish_leaves : {G : Lists} {reach : ℕ} {s : State} {t : ℕ} {p : Place} {free : ℕ} {f : Fault} {us : List Token} {s' : State} → Does G reach s (finish t p free) (refused f) us s' → s' ≡ s
@@ -42,9 +25,6 @@ finish_leaves (finish_fails w) = refl
 
 pub refused_open : {m n : Meaning} {s s' : State} {t : ℕ} {p : Place} {free : ℕ} {f : Fault} {q q' : List Token} → Writes (over m s) (finish t p free) (refused f) q q' (over n s') → s'.sheet ≡ s.sheet
 refused_open x = let c = x.calls in ap (λ (z : State). z.sheet) (c.state ∙ ap anew (finish_leaves c.does))
-
-pub refused_same : {m n : Meaning} {s s' : State} {t : ℕ} {p : Place} {free : ℕ} {f : Fault} {q q' : List Token} → Writes (over m s) (finish t p free) (refused f) q q' (over n s') → SameParser m n
-refused_same x = let c = x.calls in record { language = c.parser.language; reach = c.parser.reach }
 
 unfinished_ends : {G : Lists} {reach : ℕ} {s : State} {t : ℕ} {p : Place} {f : Fault} {us : List Token} {s' : State} (ts : List Token) → Does G reach s (finish t p places) (refused f) us s' → s'.sheet ≡ Some t → Ends G reach s t p ts [] (Err (f ∷ [])) (shut s')
 unfinished_ends ts (finish_fails w) e = unfinished (finish_fails w) (gives_up e)
@@ -133,6 +113,3 @@ module _ {K : Type 0} {kept : K → List Token → List Fault → K → Type 0} 
         keeper = subst (λ (h : K). kept h (all_tokens ts out) (all_faults fs out) d) starts
             (subst (λ (l : List Fault). kept b.keeper (all_tokens ts out) l d) (sym z.faults) (subst (λ (l : List Token). kept b.keeper l (fs ++ x.faults) d) (sym z.tokens) both));
       }
-
-pub then_shut : {x y z : Stand} → SameParser x.parser y.parser → Shut y z → Shut x z
-then_shut x y = record { parser = same_on x y.parser; sheet = y.sheet }

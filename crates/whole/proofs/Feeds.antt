@@ -124,6 +124,3 @@ module _ {K : Type 0} {kept : K → List Token → List Fault → K → Type 0} 
         within = within_on x.within w;
         keeps = subst (λ (ys : List (Result Lexeme Fault)). Keeps kept (over m s) t ys a c (over o s'')) (sym (map-append Ok x.seen (l ∷ []))) (keeps_on laws x.keeps k);
       }
-
-  pub sofar_all : {m n : Meaning} {s s' : State} {t : ℕ} {all rest : List Lexeme} {a b : K} → Sofar kept m s t all a b n s' rest → rest ≡ [] → Keeps kept (over m s) t (map Ok all) a b (over n s')
-  sofar_all {m} {n} {s} {s'} {t} {all} {rest} {a} {b} x e = subst (λ (ls : List Lexeme). Keeps kept (over m s) t (map Ok ls) a b (over n s')) (sym (x.whole ∙ ap (λ y. x.seen ++ y) e ∙ append-nil x.seen)) x.keeps

@@ -9,10 +9,6 @@ pub still : (x : Bool) → x ≡ cond x true false
 still true = refl
 still false = refl
 
-pub sure : (x : Bool) → true ≡ cond x true true
-sure true = refl
-sure false = refl
-
 either : (x : Bool) (fs gs : List Fault) → cond (cond x true (some fs)) true (some gs) ≡ cond x true (some (fs ++ gs))
 either true fs gs = refl
 either false [] gs = refl

@@ -4,4 +4,3 @@ pub mod Feeds
 pub mod Reading
 pub mod Endings
 pub mod Sheets
-pub mod Listed

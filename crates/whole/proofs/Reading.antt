@@ -22,16 +22,16 @@ use Rattle.whole.specs.Whole.{none, told, unread}
 use Rattle.whole.proofs.Feeds.{fed_none, keeps_none, keeps_on, within_none, within_on}
 
 -- an answer tells how a reading stopped
-ok_stops : (n k : ℕ) (o : Option Stop) → Ok k ≡ answer_of n o → o ≡ None
+pub ok_stops : (n k : ℕ) (o : Option Stop) → Ok k ≡ answer_of n o → o ≡ None
 ok_stops n k None e = refl
 ok_stops n k (Some s) e = absurd (let z : ◌≡◌ {A = ℕ} 0 1 = cc in omega arith)
 
-err_stops : (n : ℕ) (s : Stop) (o : Option Stop) → Err s ≡ answer_of n o → o ≡ Some s
+pub err_stops : (n : ℕ) (s : Stop) (o : Option Stop) → Err s ≡ answer_of n o → o ≡ Some s
 err_stops n s None e = absurd (let z : ◌≡◌ {A = ℕ} 0 1 = cc in omega arith)
 err_stops n s (Some x) e = cc
 
 -- a reading that does not stop early comes to the end
-comes_to_end : (end free : ℕ) (xs : List Item) → (reading end free xs).stop ≡ None → (reading end free xs).next ≡ end
+pub comes_to_end : (end free : ℕ) (xs : List Item) → (reading end free xs).stop ≡ None → (reading end free xs).next ≡ end
 comes_to_end end free [] e = refl
 comes_to_end end free (bad i n f ∷ xs) e = absurd (let z : ◌≡◌ {A = ℕ} 0 1 = cc in omega arith)
 comes_to_end end zero (good l ∷ xs) e = absurd (let z : ◌≡◌ {A = ℕ} 0 1 = cc in omega arith)

@@ -1,5 +1,5 @@
 -- A whole sheet over the language of a resolver's parser, and its law. Assumes nothing.
-use Rattle.std.proofs.Common.{◌≡◌, ℕ, ◌-◌, List, [], ◌∷◌, ◌++◌, map, length, take, vec_items, Some, None, Ok, Err, Result, sym, refl, ap, ◌∙◌, subst, arith}
+use Rattle.std.proofs.Common.{◌≡◌, ℕ, ◌-◌, List, [], ◌∷◌, ◌++◌, map, length, take, vec_items, Some, Ok, Err, Result, sym, refl, ap, ◌∙◌, subst, arith}
 use Rattle.std.proofs.lemmas.List.{append_assoc, append-nil}
 use Rattle.parser.specs.Meaning.{Meaning}
 use Rattle.parser.specs.Sets.{Lists}
@@ -16,7 +16,7 @@ use Rattle.layout.specs.declared.call.Answer.TheVariants.{Ticket as ticket, Coun
 use Rattle.layout.specs.declared.call.Call.TheVariants.{Begin as begin, Feed as feed, Finish as finish}
 use Rattle.layout.proofs.Finish.{finish_law}
 use Rattle.layout.proofs.Single.{single_sheet}
-use Rattle.whole.specs.Feeding.{Brings, Comes, Ran, SameParser}
+use Rattle.whole.specs.Feeding.{Brings, Comes, Ran}
 use Rattle.whole.specs.Kept.{Holds}
 use Rattle.whole.specs.Whole.{Ends, Feeding, Lawful, Sound, Whole, Yields, all_faults, all_tokens, begun, end_of, fault_of, fed, finished, given_up, most_faults, none, not_begun, places, told, unfinished, unread, verdict}
 use Rattle.whole.specs.declared.kept.Kept.{Kept}
@@ -33,31 +33,11 @@ module _ (m n : Meaning) (s s₁ : State) where
   brings_not_begun kept f us text a b c e =
       record { tokens = []; faults = f ∷ []; outcome = Err (f ∷ []); left = c.left; yields = refused_whole f (told text) (end_of text) c.does; state = c.state; keeper = e }
 
-  refused_sheet : {l : State} {us : List Token} (f : Fault) → Does m.remainder m.left s begin (refused f) us l → l.sheet ≡ s.sheet
-  refused_sheet f (begin_open e) = refl
-  refused_sheet f (begin_spent e n) = refl
-
-  pub not_begun_sheet : (f : Fault) (us : List Token) → Calls (over m s) begin (refused f) us (over n s₁) → s₁.sheet ≡ s.sheet
-  not_begun_sheet f us c = ap (λ (z : State). z.sheet) c.state ∙ refused_sheet f c.does
-
-  pub not_begun_parser : (f : Fault) (us : List Token) → Calls (over m s) begin (refused f) us (over n s₁) → SameParser m n
-  not_begun_parser f us c = record { language = c.parser.language; reach = c.parser.reach }
-
-  -- one that was begun
-  pub begun_parser : (k : ℕ) (us : List Token) → Calls (over m s) begin (ticket k) us (over n s₁) → SameParser m n
-  begun_parser k us c = record { language = c.parser.language; reach = c.parser.reach }
-
   opens : {l : State} {us : List Token} (k : ℕ) → Does m.remainder m.left s begin (ticket k) us l → l.sheet ≡ Some k
   opens k (begins e n) = refl
 
   pub begun_open : (k : ℕ) (us : List Token) → Calls (over m s) begin (ticket k) us (over n s₁) → s₁.sheet ≡ Some k
   begun_open k us c = ap (λ (z : State). z.sheet) c.state ∙ opens k c.does
-
-  was_shut : {l : State} {us : List Token} (k : ℕ) → Does m.remainder m.left s begin (ticket k) us l → s.sheet ≡ None
-  was_shut k (begins e n) = e
-
-  pub begun_shut : (k : ℕ) (us : List Token) → Calls (over m s) begin (ticket k) us (over n s₁) → s.sheet ≡ None
-  begun_shut k us c = was_shut k c.does
 
   begun_none : {l : State} {us : List Token} (k : ℕ) → Does m.remainder m.left s begin (ticket k) us l → l.written ≡ []
   begun_none k (begins e n) = refl

@@ -1,11 +1,13 @@
-// A sheet that goes on; what it does is in the module below, since a contract cannot stand in the file of the struct
-// that it speaks of.
-use sheet::Token;
+// A sheet that goes on: what was kept of it so far.
+ghost use Rattle.std.specs.Prelude.{◌≡◌, false, [], ◌∷◌, OnOk};
+ghost use Rattle.whole.specs.Keeping.{Gains, stop_faults};
 
-pub mod calls;
+use crate::keeper::Keeper;
+use reader::Stop;
+use sheet::{Fault, Token};
 
 // So many places are free for each call that writes: more than any call needs.
-pub const PLACES: usize = 128;
+const PLACES: usize = 128;
 
 // What keeps the sheet's tokens and faults, whether anything was refused of it, and the places that each call writes
 // into.
@@ -14,4 +16,36 @@ pub struct Progress<K> {
     pub keeper: K,
     pub refused: bool,
     pub places: [Token; PLACES],
+}
+
+impl<K: Keeper> Progress<K> {
+    // Of a sheet of which nothing was fed yet.
+    pub fn new(keeper: K) -> Progress<K>
+        ensures keeper { result.keeper ≡ keeper }
+        ensures refused { result.refused ≡ false }
+    {
+        Progress {
+            keeper,
+            refused: false,
+            places: [Token::default(); PLACES],
+        }
+    }
+
+    // Keeps a fault.
+    pub fn fault(&mut self, fault: Fault) -> Result<(), K::Error>
+        ensures { OnOk result (Gains K.kept self.old [] (fault ∷ []) self.new) }
+    {
+        self.refused = true;
+        self.keeper.fault(fault)
+    }
+
+    // Keeps the fault at which a reading stopped, if it did at one.
+    pub fn stop(&mut self, stop: Stop) -> Result<(), K::Error>
+        ensures { OnOk result (Gains K.kept self.old [] (stop_faults stop) self.new) }
+    {
+        match stop {
+            Stop::Fault(fault) => self.fault(fault),
+            Stop::Full(_) => Ok(()),
+        }
+    }
 }

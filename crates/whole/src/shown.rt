@@ -1,21 +1,28 @@
 // What is printed of a sheet: its tokens on one line, or its faults, a line each.
-ghost use Rattle.std.specs.Prelude.{◌≡◌, false, [], ◌++◌, IfOk, if◌then◌else◌, codes, OnOk};
+ghost use Rattle.std.specs.Prelude.{◌≡◌, true, false, ◌++◌, IfOk, OnOk};
 ghost use Rattle.std.specs.List.{flat_map};
 ghost use Rattle.whole.specs.Listing.{fault_line, listed, one_spaced, sign_text, spaced, token_text};
 ghost use Rattle.whole.specs.Whole.{outcome as lists_of};
 
 use crate::outcome::Outcome;
-use sheet::{Fault, Token};
+use sheet::{Fault, Kind, Token};
 use std::alloc::{AllocError, Global};
+
+// The kinds of the tokens that are inserted, as tokens have them.
+const OPEN_BRACE: u32 = Kind::OpenBrace as u32;
+
+const CLOSE_BRACE: u32 = Kind::CloseBrace as u32;
+
+const SEMICOLON: u32 = Kind::Semicolon as u32;
 
 // The text of an inserted token.
 fn sign(kind: u32) -> &'static [u8]
     ensures { result.now ≡ sign_text kind }
 {
     match kind {
-        3 => b"{",
-        4 => b"}",
-        5 => b";",
+        OPEN_BRACE => b"{",
+        CLOSE_BRACE => b"}",
+        SEMICOLON => b";",
         _ => b"",
     }
 }
@@ -36,26 +43,11 @@ fn text_of<'a>(text: &'a [u8], token: &Token) -> &'a [u8]
     }
 }
 
-// Adds a space if something follows another.
-fn add_space(bytes: &mut Vec<u8>, follows: bool) -> Result<(), AllocError>
-    ensures { OnOk result (bytes.new.items ≡ bytes.old.items ++ (if follows then codes " " else [])) }
+// Adds a token's text behind a space.
+fn add_next(bytes: &mut Vec<u8>, text: &[u8], token: &Token) -> Result<(), AllocError>
+    ensures { OnOk result (bytes.new.items ≡ bytes.old.items ++ one_spaced text.now true token.now) }
 {
-    if follows {
-        bytes.push(b' ')?;
-    }
-    Ok(())
-}
-
-// Adds a token's text, with a space before it if it follows another.
-fn add_token(
-    bytes: &mut Vec<u8>,
-    text: &[u8],
-    token: &Token,
-    follows: bool,
-) -> Result<(), AllocError>
-    ensures { OnOk result (bytes.new.items ≡ bytes.old.items ++ one_spaced text.now follows token.now) }
-{
-    add_space(bytes, follows)?;
+    bytes.push(b' ')?;
     bytes.extend_from_slice(text_of(text, token))
 }
 
@@ -63,10 +55,12 @@ fn add_token(
 fn add_tokens(bytes: &mut Vec<u8>, text: &[u8], tokens: &[Token]) -> Result<(), AllocError>
     ensures { OnOk result (bytes.new.items ≡ bytes.old.items ++ spaced text.now false tokens.now) }
 {
-    let mut follows = false;
-    for token in tokens {
-        add_token(bytes, text, token, follows)?;
-        follows = true;
+    let Some((first, rest)) = tokens.split_first() else {
+        return Ok(());
+    };
+    bytes.extend_from_slice(text_of(text, first))?;
+    for token in rest {
+        add_next(bytes, text, token)?;
     }
     Ok(())
 }

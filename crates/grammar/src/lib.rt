@@ -9,7 +9,8 @@ ghost use Rattle.grammar.specs.Grammar.{nth, among, IsNonterminal, Nullable, Can
 ghost use Rattle.grammar.specs.Sheet.{sheet};
 ghost use Rattle.grammar.specs.Sets.{nullables, beginners, followers};
 
-// The right side of a production of the sheet grammar, by its number; empty for a number that none has.
+// The right side of a production of the sheet grammar, by its number; empty for a number that none has. Productions and
+// symbols are numbers here and in the table, since its format numbers them.
 pub fn right_side(production: u8) -> &'static [u8]
     ensures { result.now ≡ (nth sheet production).right }
 {

@@ -20,7 +20,8 @@ pub enum Call {
     },
 }
 
-// What a call answers: a ticket's number, how many tokens it wrote, that it closed the sheet, or why it was refused.
+// What a call answers: a ticket's number, how many tokens it wrote, that it closed the sheet, or why it was refused. The
+// law of every run names the four as cases of one type, so they are no `Result`.
 #[derive(Clone, Copy, Debug, PartialEq, Eq)]
 pub enum Answer {
     Ticket(u64),

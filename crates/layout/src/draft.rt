@@ -19,7 +19,8 @@ pub struct Draft {
     pub depth: usize,
     // The context that the call itself opened, if any; it is the innermost then.
     pub opened: Option<u32>,
-    // The tokens that the call inserts: a `{` or none, some `}`, a `;` or none, and some `}` again.
+    // The tokens that the call inserts: a `{` or none, some `}`, a `;` or none, and some `}` again. Four counts in the order
+    // of writing, so that a `}` behind no `;` is one of the first and no flag goes with the last.
     pub brace: bool,
     pub closes: u32,
     pub separator: bool,
@@ -150,7 +151,7 @@ impl Draft {
     }
 }
 
-// Whether there is room for a token: a `{` opens one block more.
+// Whether there is room for a token: a `{` opens one block more. The kind is any number, so it is compared as one.
 fn has_room(kind: u32, blocks: usize) -> bool
     ensures { Decides result (Room kind blocks) }
 {

@@ -27,7 +27,7 @@ pub struct Journal {
 const MOST_FREE: usize = 255;
 
 impl Call {
-    // How many places the call finds free.
+    // How many places the call finds free: none where it is lent no queue.
     fn free(self) -> u8
         ensures { result ≡ free_places self }
     {
@@ -53,7 +53,8 @@ fn refusal(refused: Refusal) -> Fault
     fault
 }
 
-// Makes a call with a ticket of the number that it says.
+// Makes a call with a ticket of the number that it says. A `match` on values: calls are kept and made again. Each answer is
+// made by a `match` too, in which one sees where its ticket goes.
 fn make<P: Stepping>(resolver: &mut Resolver<P>, call: Call, queue: &mut Queue<'_, Token>) -> Answer
     requires { free_places call ≡ room queue.old }
     ensures { Writes (stand P.Stepping resolver.old) call result (waiting queue.old) (waiting queue.new) (stand P.Stepping resolver.new) }

@@ -27,7 +27,7 @@ pub enum Mark {
     Block,
 }
 
-// A lexeme, or the end of the sheet with its place.
+// A lexeme, or the end of the sheet with its place. No `Result`: the end is no refusal of a lexeme.
 #[derive(Clone, Copy, Debug, PartialEq, Eq)]
 pub enum Coming {
     Lexeme(Lexeme),
@@ -86,7 +86,8 @@ impl Before {
         }
     }
 
-    // The mark before a lexeme, if any.
+    // The mark before a lexeme, if any. Kinds are compared as numbers: made a `Kind` first, each test would have a case more,
+    // for the numbers that are none.
     pub fn mark_of(self, lexeme: &Lexeme) -> Option<Mark>
         ensures value { result ≡ mark_of self lexeme.now }
     {
@@ -155,7 +156,7 @@ impl Insert {
 }
 
 impl Coming {
-    // The column by which the rules go: 0 at the end.
+    // The column by which the rules go: 0 at the end, as function L of the Haskell Report has it, and no `Option`.
     pub fn column(&self) -> u32
         ensures { result ≡ column self.now }
     {
@@ -225,7 +226,7 @@ fn must_close<P: Probing>(parser: &P, kind: u32, innermost: Option<u32>) -> bool
         && parser.viable(Kind::CloseBrace.number())
 }
 
-// The rule at a lexeme without a mark.
+// The rule at a lexeme without a mark. Its kind is compared as a number, for the reason told at `mark_of`.
 fn rule_at_lexeme<P: Probing>(parser: &P, kind: u32, innermost: Option<u32>) -> Rule
     ensures { (l : Typed) (ks : List ℕ) → kind ≡ l.kind → innermost_of ks ≡ innermost → Applies (P.remainder parser.now) [] none (lexeme l) ks result }
 {

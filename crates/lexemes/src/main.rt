@@ -33,7 +33,8 @@ fn write_waiting<W: Write>(
     Ok(written)
 }
 
-// Writes the lexemes and faults of a text, through a queue that may be smaller than the text.
+// Writes the lexemes and faults of a text, through a queue that may be smaller than the text. A loop of its own beside that
+// of `whole`, which resolves; both are counted as they are written.
 fn write_items<W: Write>(text: &[u8], queue: &mut Queue<'_, Lexeme>, out: &mut W) -> io::Result<()>
     requires places { 0 < capacity queue.old }
     requires empty { waiting queue.old ≡ [] }

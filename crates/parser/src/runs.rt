@@ -19,7 +19,7 @@ pub enum Call {
     Keep,
 }
 
-// What a question or an operation answers.
+// What a question or an operation answers. No `Result`: `Done` is also what the four answer that cannot be refused.
 #[derive(Clone, Copy, Debug, PartialEq, Eq)]
 pub enum Answer {
     Told(bool),
@@ -28,7 +28,8 @@ pub enum Answer {
 }
 
 // Takes the kinds in turn until one is refused, and answers how many were taken. Every kind of a list that
-// begins a list of the remainder is taken, as far as the number left goes.
+// begins a list of the remainder is taken, as far as the number left goes. A `for` with its index: the parser changes at
+// each turn, and a closure of `take_while` or `position` would have to change it.
 pub fn take_all<P: Stepping>(parser: &mut P, kinds: &[u32]) -> usize
     ensures within { result ≤ length kinds.now }
     ensures paid { result ≤ P.left parser.old }
@@ -64,7 +65,7 @@ pub fn accepts<P: Stepping>(parser: &mut P, kinds: &[u32]) -> bool
     answer
 }
 
-// Asks or does what the call says.
+// Asks or does what the call says. A `match` on a value: calls are kept, compared and made again.
 pub fn perform<P: Stepping>(parser: &mut P, call: Call) -> Answer
     ensures told { Answers (meaning P.Stepping parser.old) call result }
     ensures means { Alike (meaning P.Stepping parser.new) (next call result (meaning P.Stepping parser.old)) }
@@ -103,7 +104,8 @@ fn same(one: Answer, other: Answer) -> bool
 }
 
 // Makes the calls on both parsers up to the first that they answer differently, and tells whether they answered the same
-// to each. Two that are alike answer the same and stay alike, for ever, whatever they are made of.
+// to each. Two that are alike answer the same and stay alike, for ever, whatever they are made of. A `for`: a closure of
+// `all` would have to change both parsers.
 pub fn agree<P: Stepping, Q: Stepping>(one: &mut P, other: &mut Q, calls: &[Call]) -> bool
     ensures told { Decides result (Agree (meaning P.Stepping one.old) (meaning Q.Stepping other.old) calls.now) }
     ensures made { Made (meaning P.Stepping one.old) (meaning Q.Stepping other.old) calls.now (meaning P.Stepping one.new) (meaning Q.Stepping other.new) }

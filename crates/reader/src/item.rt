@@ -16,7 +16,7 @@ pub struct Found {
     pub after: Cursor,
 }
 
-// A fault at a place of the text, which has no layout context.
+// A fault at a place of the text, which has no layout context. A fault has its line and column itself, as a lexeme has.
 pub fn fault(at: Cursor, reason: Reason) -> Fault
     ensures { result ≡ fault_at at reason }
 {

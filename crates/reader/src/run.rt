@@ -35,7 +35,8 @@ fn front_length<F: Fn(Class) -> bool>(bytes: &[u8], passes: F) -> usize
         .count()
 }
 
-// How many bytes at the front are a point and digits. A point belongs to a number only if a digit follows.
+// How many bytes at the front are a point and digits. A point belongs to a number only if a digit follows. None are 0 bytes
+// and no `None`: they are added to those before the point.
 fn fraction_length(bytes: &[u8]) -> usize
     ensures value { result ≡ fraction bytes.now }
     ensures within { result ≤ length bytes.now }

@@ -12,7 +12,7 @@ use std::fmt;
 pub struct TooLong;
 
 impl TooLong {
-    // The number by which the outside knows the refusal.
+    // The number by which the outside knows the refusal, one constant as the queue's refusal has.
     pub fn number(&self) -> u32
         ensures { result ≡ too_long_number self.now }
     {

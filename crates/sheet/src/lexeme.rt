@@ -97,7 +97,8 @@ pub struct Lexeme {
     pub length: u32,
 }
 
-// A token as it is written: a lexeme without its flag, or one that was inserted (offset and length are then 0).
+// A token as it is written: a lexeme without its flag, or one that was inserted (offset and length are then 0). It is no
+// part of `Lexeme`, and no `Place` is part of either: each rule and each caller would have to name the part.
 // The default is none of a sheet: a queue's places hold it before a token comes.
 #[derive(Clone, Copy, Debug, Default, PartialEq, Eq)]
 pub struct Token {

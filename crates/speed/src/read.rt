@@ -33,7 +33,8 @@ fn of_stop(stop: Stop) -> u64
     }
 }
 
-// Reads a text to its end and adds up all that it tells; one that is too long is read as empty.
+// Reads a text to its end and adds up all that it tells; one that is too long is read as empty. A loop of its own beside
+// that of `whole`: it reads and resolves nothing.
 #[unsafe(no_mangle)]
 pub extern "C" fn speed_read(text: &[u8]) -> u64
     ensures { result ≡ total text.now }

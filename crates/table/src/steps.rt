@@ -16,7 +16,7 @@ pub(crate) enum Step {
     Meets(&'static [u8]),
 }
 
-// The first nonterminal.
+// The first nonterminal, which the format makes the start symbol too.
 const NONTERMINAL: u8 = 16;
 
 // 0 where the kind is rejected, 1 where the nonterminal vanishes, and from 2 on the symbols that are left, by their

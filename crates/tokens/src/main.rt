@@ -9,6 +9,7 @@ use std::io::{Read, Write};
 use table::TableParser;
 use whole::{Failure, listing, resolve};
 
+// As `trials` writes a sheet, but for the stream and the type of its errors.
 fn main(rt: HostRuntime) -> io::Result<()> {
     let mut text = Vec::new(rt.alloc());
     rt.stdin().read_to_end(&mut text)?;

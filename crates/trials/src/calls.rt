@@ -7,7 +7,7 @@ use std::alloc::Global;
 use std::io::Write;
 use table::TableParser;
 
-// Makes the calls of a run over two parsers, and writes what they answered.
+// Makes the calls of a run over two parsers, and writes what they answered. They are compared by what is written.
 fn write_run<W: Write>(
     heap: Global,
     first: u64,

@@ -15,7 +15,8 @@ fn add_count(out: &mut String, tokens: &[Token], from: usize, count: usize) -> f
     Ok(())
 }
 
-// The answers of a run, a line each.
+// The answers of a run, a line each. An answer that counts has its tokens in the journal and not in itself, so that it
+// has no `Display`, and where they begin is counted here.
 pub fn journal_text(heap: Global, journal: &Journal) -> Result<String, fmt::Error> {
     let mut out = String::new(heap);
     let mut from = 0usize;

@@ -21,6 +21,7 @@ fn flag(number: u64) -> anyhow::Result<bool> {
     }
 }
 
+// Eight numbers; with `finish` it shares the conversion of one number and nothing else.
 fn feed(numbers: &[u64]) -> anyhow::Result<Call> {
     let [ticket, kind, line, column, first, offset, length, free] = numbers else {
         return Err(anyhow!("feed has eight numbers"));

@@ -17,7 +17,8 @@ use sheet::{Lexeme, Place};
 // So many lexemes are read at once.
 const LEXEMES: usize = 64;
 
-// Feeds a lexeme and keeps what it writes, or why it is refused.
+// Feeds a lexeme and keeps what it writes, or why it is refused. This and the two below say the same of one lexeme, of all
+// that wait and of a whole text.
 fn feed_one<P: Stepping, K: Keeper>(
     ticket: &Ticket,
     resolver: &mut Resolver<P>,

@@ -10,7 +10,7 @@ use sheet::{Fault, Token};
 const PLACES: usize = 128;
 
 // What keeps the sheet's tokens and faults, whether anything was refused of it, and the places that each call writes
-// into.
+// into. The flag goes with no value: what is kept counts in both states.
 #[derive(Drop)]
 pub struct Progress<K> {
     pub keeper: K,

@@ -19,7 +19,8 @@ use reader::check;
 use sheet::Place;
 use std::alloc::Global;
 
-// Gives up the open sheet.
+// Gives up the open sheet. That it is the ticket's stands in three functions; a struct of both would lend the resolver and
+// hold the ticket, and be taken apart again at each call that takes the ticket.
 fn give_up<P: Stepping>(ticket: Ticket, resolver: &mut Resolver<P>)
     requires { (standing resolver.old).sheet ≡ open_sheet ticket.number }
     ensures calls { Calls (stand P.Stepping resolver.old) (give_up_call ticket.number) closed_answer [] (stand P.Stepping resolver.new) }
@@ -56,7 +57,7 @@ fn conclude<P: Stepping, K: Keeper>(
     Ok(progress.keeper)
 }
 
-// The rest of a sheet that was begun.
+// The rest of a sheet that was begun. No `?` on what feeding answers: the ticket has to be given up first.
 fn run<P: Stepping, K: Keeper>(
     text: &[u8],
     ticket: Ticket,

@@ -26,7 +26,7 @@ fn is_whole<P: Probing>(parser: &P, coming: &Coming) -> bool
     }
 }
 
-// Whether a lexeme is no brace.
+// Whether a lexeme is no brace; its kind is any number, so it is compared as one.
 pub(super) fn is_plain(lexeme: &Lexeme) -> bool
     ensures { Decides result (Plain lexeme.now) }
 {

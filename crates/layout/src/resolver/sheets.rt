@@ -95,7 +95,8 @@ impl<P: Stepping> Resolver<P> {
         }
     }
 
-    // The rules over a lexeme: all of it is accepted, or nothing is altered.
+    // The rules over a lexeme: all of it is accepted, or nothing is altered. It shares with `finish_sheet` the order of the
+    // steps alone: what is tested before and what is done after is another thing in each.
     pub(super) fn feed_lexeme(
         &mut self,
         number: u64,

@@ -14,12 +14,12 @@ impl Weighed for Lexeme {
     ghost weight = { λ lexeme. told_weight (told_lexeme lexeme) };
 
     fn weigh(self) -> u64 {
-        self.kind as u64
-            + self.line as u64
-            + self.column as u64
-            + self.first as u64
-            + self.offset as u64
-            + self.length as u64
+        u64::from(self.kind)
+            + u64::from(self.line)
+            + u64::from(self.column)
+            + u64::from(self.first)
+            + u64::from(self.offset)
+            + u64::from(self.length)
     }
 }
 

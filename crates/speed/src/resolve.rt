@@ -23,11 +23,11 @@ impl Weighed for Token {
     ghost weight = { token_weight };
 
     fn weigh(self) -> u64 {
-        self.kind as u64
-            + self.line as u64
-            + self.column as u64
-            + self.offset as u64
-            + self.length as u64
+        u64::from(self.kind)
+            + u64::from(self.line)
+            + u64::from(self.column)
+            + u64::from(self.offset)
+            + u64::from(self.length)
     }
 }
 

@@ -18,7 +18,7 @@ impl Weighed for Fault {
     ghost weight = { fault_weight };
 
     fn weigh(self) -> u64 {
-        self.reason.number() as u64 + self.line as u64 + self.column as u64
+        u64::from(self.reason.number()) + u64::from(self.line) + u64::from(self.column)
     }
 }
 

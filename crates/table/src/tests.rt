@@ -11,12 +11,7 @@ fn expected_after(kinds: &[u32]) -> ExpectedKinds {
 
 // Whether these kinds are flagged, and no other number is.
 fn only(found: &ExpectedKinds, kinds: &[u32]) -> bool {
-    for kind in 0..20u32 {
-        if found.has(kind) != kinds.contains(&kind) {
-            return false;
-        }
-    }
-    true
+    (0..20u32).all(|kind| found.has(kind) == kinds.contains(&kind))
 }
 
 #[test]

@@ -18,36 +18,35 @@ fn line_end(bytes: &[u8]) -> Option<usize>
 
 // How many bytes the sheet has that a line announces.
 fn announced(line: &[u8]) -> anyhow::Result<usize> {
-    match std::str::from_utf8(line)?.strip_prefix("sheet ") {
-        Some(number) => Ok(number.parse::<usize>()?),
-        None => Err(anyhow!("no line `sheet LENGTH`")),
-    }
+    let Some(number) = std::str::from_utf8(line)?.strip_prefix("sheet ") else {
+        return Err(anyhow!("no line `sheet LENGTH`"));
+    };
+    Ok(number.parse::<usize>()?)
 }
 
 // A sheet of so many bytes and a line end, and what follows them.
 fn cut(bytes: &[u8], size: usize) -> anyhow::Result<(&[u8], &[u8])>
     ensures { IfOk result (λ p. length p.1.now < length bytes.now) }
 {
-    if bytes.len() <= size {
+    let Some((sheet, rest)) = bytes.split_at_checked(size) else {
         return Err(anyhow!("a sheet is cut off"));
+    };
+    match rest {
+        [b'\n', after @ ..] => Ok((sheet, after)),
+        [] => Err(anyhow!("a sheet is cut off")),
+        _ => Err(anyhow!("no line end behind a sheet")),
     }
-    if bytes[size] != b'\n' {
-        return Err(anyhow!("no line end behind a sheet"));
-    }
-    Ok((&bytes[..size], &bytes[size + 1..]))
 }
 
 // The first sheet of some bytes, and what follows it.
 fn first_sheet(bytes: &[u8]) -> anyhow::Result<(&[u8], &[u8])>
     ensures { IfOk result (λ p. length p.1.now < length bytes.now) }
 {
-    match line_end(bytes) {
-        Some(end) => {
-            let size = announced(&bytes[..end])?;
-            cut(&bytes[end + 1..], size)
-        }
-        None => Err(anyhow!("no line end")),
-    }
+    let Some(end) = line_end(bytes) else {
+        return Err(anyhow!("no line end"));
+    };
+    let size = announced(&bytes[..end])?;
+    cut(&bytes[end + 1..], size)
 }
 
 // Writes what comes of a sheet.

@@ -35,12 +35,7 @@ fn text_of<'a>(text: &'a [u8], token: &Token) -> &'a [u8]
         return sign(token.kind);
     }
     let from = token.offset as usize;
-    let to = from + token.length as usize;
-    if to <= text.len() {
-        &text[from..to]
-    } else {
-        &[]
-    }
+    text.get(from..from + token.length as usize).unwrap_or(&[])
 }
 
 // Adds a token's text behind a space.

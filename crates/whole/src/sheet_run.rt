@@ -19,8 +19,8 @@ use reader::check;
 use sheet::Place;
 use std::alloc::Global;
 
-// Gives up the open sheet. That it is the ticket's stands in three functions; a struct of both would lend the resolver and
-// hold the ticket, and be taken apart again at each call that takes the ticket.
+// Gives up the open sheet. That it is the ticket's stands in three contracts of this file and in no struct of the two: such
+// a struct would hold the lent resolver, and each contract would speak of what was lent besides.
 fn give_up<P: Stepping>(ticket: Ticket, resolver: &mut Resolver<P>)
     requires { (standing resolver.old).sheet ≡ open_sheet ticket.number }
     ensures calls { Calls (stand P.Stepping resolver.old) (give_up_call ticket.number) closed_answer [] (stand P.Stepping resolver.new) }

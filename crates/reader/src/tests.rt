@@ -69,7 +69,7 @@ fn a_return_and_a_line_feed_end_one_line(rt: HostRuntime) {
     assert_eq!(rt; end_of(b"\r\r\n"), Place { line: 3, column: 1 });
 }
 
-// Five bytes are blanks and line ends.
+// Five bytes are blanks and line ends. Each reading tells which of the two counts grows.
 #[test]
 fn each_byte_alone(rt: HostRuntime) {
     let mut places = [Lexeme::default(); 1];

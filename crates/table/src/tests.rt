@@ -100,6 +100,7 @@ fn reach(rt: HostRuntime) -> Result<(), Fail> {
 
 #[test]
 fn filled(rt: HostRuntime) {
+    // Two `for`s: a chain over both numbers would count no shorter.
     let mut count = 0u8;
     for symbol in 0..40u8 {
         for kind in 0..40u32 {

@@ -60,7 +60,7 @@ fn add_tokens(bytes: &mut Vec<u8>, text: &[u8], tokens: &[Token]) -> Result<(), 
     Ok(())
 }
 
-// Adds a fault on its line.
+// Adds a fault on its line. No `writeln!` into the bytes: it answers an `io::Error`, and this an `AllocError`.
 fn add_fault(heap: Global, bytes: &mut Vec<u8>, fault: &Fault) -> Result<(), AllocError>
     ensures { OnOk result (bytes.new.items ≡ bytes.old.items ++ fault_line fault.now) }
 {

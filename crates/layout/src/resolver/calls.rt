@@ -105,7 +105,8 @@ impl Ticket {
         }
     }
 
-    // The same by the rules in full.
+    // The same by the rules in full, the rare way, kept apart. Both cases go on with the resolver or the queue: a `match`,
+    // here and in `finish`, and no `map` with a `map_err`.
     fn feed_by_rules<P: Stepping>(
         &self,
         resolver: &mut Resolver<P>,

@@ -50,6 +50,7 @@ impl<'a> Reader<'a> {
         if rest.is_empty() {
             return None;
         }
+        // Both arms make a `Found`: with one behind the `match` a pair would stand between.
         match front_run(rest) {
             Some(run) => Some(Found {
                 what: judge(at, run),

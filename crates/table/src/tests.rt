@@ -1,7 +1,6 @@
 // Sentences and near-sentences, expected kinds, and the operations on examples.
 use crate::*;
-use parser::{ExpectedKinds, Probing, Stepping, expected_kinds, take_all};
-use std::test::Fail;
+use parser::{ExpectedKinds, Probing, Refused, Stepping, expected_kinds, take_all};
 
 fn expected_after(kinds: &[u32]) -> ExpectedKinds {
     let mut parser = TableParser::new();
@@ -79,23 +78,22 @@ fn refusals(rt: HostRuntime) {
 }
 
 #[test]
-fn reach(rt: HostRuntime) -> Result<(), Fail> {
+fn reach(rt: HostRuntime) {
     let mut parser = TableParser::new();
     assert!(rt; parser.take(3).is_ok());
     for _ in 0..1023 {
         assert!(rt; parser.take(5).is_ok());
     }
-    match parser.take(7) {
-        Ok(()) => return Err(Fail::new(") is taken")),
-        Err(why) => assert_eq!(rt; why.number(), 11),
-    }
-    match parser.take(4) {
-        Ok(()) => Err(Fail::new("one more is taken")),
-        Err(why) => {
-            assert_eq!(rt; why.number(), 12);
-            Ok(())
-        },
-    }
+    assert_eq!(rt;
+        parser.take(7).map_err(Refused::number),
+        Err(11),
+        ") is taken"
+    );
+    assert_eq!(rt;
+        parser.take(4).map_err(Refused::number),
+        Err(12),
+        "one more is taken"
+    );
 }
 
 #[test]

@@ -1,5 +1,5 @@
 -- Lexemes that are fed where a parser stands are fed after what it took. Assumes nothing.
-use Rattle.std.proofs.Common.{◌≡◌, ℕ, ◌-◌, List, [], ◌∷◌, ◌++◌, length, None, Ok, Result, sym, subst, arith, length-append}
+use Rattle.std.proofs.Common.{◌≡◌, ℕ, ◌-◌, List, [], ◌∷◌, ◌++◌, length, None, Ok, Option, Result, sym, subst, arith, length-append}
 use Rattle.std.proofs.lemmas.List.{append_assoc}
 use Rattle.parser.specs.Sets.{Lists, Same}
 use Rattle.sheet.specs.declared.fault.Fault.{Fault}
@@ -24,7 +24,7 @@ abbrev pub behind : List ℕ → State → State
 behind u s = record { sheet = s.sheet; next = s.next; contexts = s.contexts; before = s.before; written = u ++ s.written }
 
 module _ (A R : Lists) (u : List ℕ) (same : Same A (λ w. R (u ++ w))) (left reach : ℕ) (all : left ≡ reach - length u) where
-  runs_behind : (s : State) {ks : List ℕ} {m : Mark} {c : Coming} {o : Result Laid Reason} → Runs A s.written (left - length s.written) ks m c o → Runs R (u ++ s.written) (reach - length (u ++ s.written)) ks m c o
+  runs_behind : (s : State) {ks : List ℕ} {m : Option Mark} {c : Coming} {o : Result Laid Reason} → Runs A s.written (left - length s.written) ks m c o → Runs R (u ++ s.written) (reach - length (u ++ s.written)) ks m c o
   runs_behind s {ks} {m} {c} {o} r = subst (λ k. Runs R (u ++ s.written) k ks m c o) (omega (arith, all, length-append u s.written)) (runs_on A R u same r)
 
   fails_behind : (s : State) {t : ℕ} {l : Lexeme} {free : ℕ} {why : Reason} → FeedFails A left s t l free why → FeedFails R reach (behind u s) t l free why

@@ -63,7 +63,7 @@ fn kept_beginners(symbol: u8) -> &'static [u8]
     }
 }
 
-// The kinds that can follow a nonterminal.
+// The kinds that can follow a nonterminal. A `match` of its own: its rows have nothing in common with those above.
 fn kept_followers(symbol: u8) -> &'static [u8]
     ensures { result.now ≡ followers symbol }
 {

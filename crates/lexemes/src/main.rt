@@ -3,7 +3,7 @@
 
 #![tactic(auto)]
 
-ghost use Rattle.std.specs.Prelude.{◌≡◌, ◌<◌, [], OnOk};
+ghost use Rattle.std.specs.Prelude.{◌≡◌, [], OnOk};
 ghost use Rattle.queue.specs.Waiting.{capacity, waiting};
 
 use queue::Queue;
@@ -11,6 +11,9 @@ use reader::{Reader, Stop, check};
 use sheet::Lexeme;
 use std::io;
 use std::io::{BufWriter, Read, Write};
+
+// The reader works through so many places, fewer than most sheets have lexemes.
+const PLACES: usize = 16;
 
 // Writes and empties what waits in the queue, and answers how many lexemes that were.
 fn write_waiting<W: Write>(
@@ -35,16 +38,15 @@ fn write_waiting<W: Write>(
 
 // Writes the lexemes and faults of a text, through a queue that may be smaller than the text. A loop of its own beside that
 // of `whole`, which resolves; both are counted as they are written.
-fn write_items<W: Write>(text: &[u8], queue: &mut Queue<'_, Lexeme>, out: &mut W) -> io::Result<()>
-    requires places { 0 < capacity queue.old }
-    requires empty { waiting queue.old ≡ [] }
-{
+fn write_items<W: Write>(text: &[u8], out: &mut W) -> io::Result<()> {
+    let mut places = [Lexeme::default(); PLACES];
+    let mut queue = Queue::new(&mut places);
     let mut reader = Reader::open(text);
     let mut lexemes = 0u64;
     let mut faults = 0u64;
     loop {
-        let answer = reader.read(queue);
-        lexemes = lexemes.saturating_add(write_waiting(text, queue, out)?);
+        let answer = reader.read(&mut queue);
+        lexemes = lexemes.saturating_add(write_waiting(text, &mut queue, out)?);
         match answer {
             Ok(_) => return writeln!(out, "{lexemes} lexemes, {faults} faults"),
             Err(Stop::Fault(fault)) => {
@@ -59,11 +61,9 @@ fn write_items<W: Write>(text: &[u8], queue: &mut Queue<'_, Lexeme>, out: &mut W
 fn main(rt: HostRuntime) -> io::Result<()> {
     let mut text = Vec::new(rt.alloc());
     rt.stdin().read_to_end(&mut text)?;
-    let mut places = [Lexeme::default(); 16];
-    let mut queue = Queue::new(&mut places);
     let mut out = BufWriter::new(rt.alloc(), rt.stdout())?;
     match check(&text) {
-        Ok(()) => write_items(&text, &mut queue, &mut out)?,
+        Ok(()) => write_items(&text, &mut out)?,
         Err(refusal) => writeln!(out, "fault {refusal}")?,
     }
     out.flush()

@@ -21,7 +21,7 @@ pub enum Refused {
 }
 
 impl Refused {
-    // The number that a fault carries.
+    // The number that a fault carries: one cast, and no trait of numbers, which would be one crate more to stand on.
     pub fn number(self) -> u8
         ensures { result ≡ number_of self }
     {

@@ -96,7 +96,8 @@ pub fn perform<P: Stepping>(parser: &mut P, call: Call) -> Answer
     }
 }
 
-// Whether two answers are the same. A function of its own, since a proof has `==` on an enum as a test on its parts.
+// Whether two answers are the same. A function of its own: `!=` in the loop was tried, and the search gave up, since a proof
+// has `==` on an enum as a test on its parts.
 fn same(one: Answer, other: Answer) -> bool
     ensures { Decides result (one ≡ other) }
 {

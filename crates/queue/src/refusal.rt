@@ -6,8 +6,8 @@ ghost use Rattle.queue.specs.Refusal.{number};
 pub struct Full;
 
 impl Full {
-    // The number that stands for the refusal outside the program. One constant: a trait of such numbers would need a crate
-    // that both the queue and the reader stand on.
+    // The number that stands for the refusal outside the program. One constant: a trait of such numbers would say no
+    // more.
     pub fn number(&self) -> u8
         ensures { result ≡ number self.now }
     {

@@ -36,7 +36,7 @@ const SEMICOLON: Class = Sign(Kind::Semicolon);
 
 const EQUALS: Class = Sign(Kind::Equals);
 
-// By the number of the byte.
+// By the number of the byte: a constant table, as its format asks.
 static CLASSES: [Class; 256] = [
     // 0 to 31, with the tab, the line feed, the form feed and the carriage return.
     Unreadable, Unreadable, Unreadable, Unreadable, Unreadable, Unreadable, Unreadable, Unreadable,

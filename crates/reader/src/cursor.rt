@@ -42,9 +42,9 @@ impl Cursor {
     {
         Cursor {
             offset: self.offset + length,
-            line: self.line,
             column: self.column + length as u32,
             first: false,
+            ..self
         }
     }
 }

@@ -71,6 +71,7 @@ impl Reason {
         self as u32
     }
 
+    // The layer that refuses so: a question about the refusal, and no conversion.
     pub fn layer(self) -> Layer
         ensures { result ≡ (known self).layer }
     {

@@ -27,7 +27,8 @@ pub enum Kind {
 }
 
 impl Kind {
-    // The number by which the outside knows the kind.
+    // The number by which the outside knows the kind. No trait of numbers stands above this and its like: it would be one
+    // crate more for each refusal to stand on.
     pub fn number(self) -> u32
         ensures { result ≡ kind_number self }
     {
@@ -144,7 +145,12 @@ impl fmt::Display for Lexeme {
         write!(
             f,
             "{} {} {} {} {} {}",
-            self.line, self.column, self.kind, self.first as u8, self.offset, self.length
+            self.line,
+            self.column,
+            self.kind,
+            u8::from(self.first),
+            self.offset,
+            self.length
         )
     }
 }

@@ -1,4 +1,5 @@
-// The table: a row for each nonterminal from 16 on, a column for each kind from 1 on.
+// The table: a row for each nonterminal from 16 on, a column for each kind from 1 on. A constant table of numbers, read by
+// index, as its format asks.
 ghost use Rattle.std.specs.Prelude.{◌≡◌, ◌<◌, [], slice_index, slice_index_or};
 ghost use Rattle.table.specs.Cells.{cells, filled};
 ghost use Rattle.table.specs.Entry.{Entry};

@@ -60,7 +60,7 @@ impl Level {
         }
     }
 
-    // Back to the start symbol alone, with the whole reach.
+    // Back to the start symbol alone, with the whole reach. No `*self = Level::new()`: that writes every place again.
     pub(crate) fn reset(&mut self)
         ensures stack { stack_of self.new ≡ start_symbol ∷ [] }
         ensures left { self.new.left ≡ 1024 }
@@ -70,7 +70,8 @@ impl Level {
         self.left = REACH;
     }
 
-    // The same stack and number left as the other has. Only the symbols of the two stacks are touched.
+    // The same stack and number left as the other has. Only the symbols of the two stacks are touched. An `ArrayVec` is not
+    // `Copy`, and its `clone` answers an error, where this call cannot fail.
     pub(crate) fn copy(&mut self, other: &Level)
         ensures stack { stack_of self.new ≡ stack_of other.now }
         ensures left { self.new.left ≡ other.now.left }

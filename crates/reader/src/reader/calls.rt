@@ -62,6 +62,7 @@ impl<'a> Reader<'a> {
         ensures forward { is_ok result ≡ false → 0 < room queue.old → offset_of self.old < offset_of self.new }
         ensures places { SamePlaces queue.old queue.new }
     {
+        // Counted here: the loop has four ways out, and one answers the count.
         let mut count = 0;
         loop {
             self.pass_gaps();

@@ -113,7 +113,8 @@ fn note<P: Stepping>(
     drain(&mut queue, &mut journal.tokens)
 }
 
-// Makes the calls on a new resolver over the parser, and writes down what they answered and wrote.
+// Makes the calls on a new resolver over the parser, and writes down what they answered and wrote. A run is these three: an
+// allocator, a first number and the calls.
 pub fn replay<P: Stepping + Drop>(
     heap: Global,
     parser: P,

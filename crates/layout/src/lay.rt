@@ -23,7 +23,7 @@ impl Coming {
 }
 
 // The rules over what comes, up to its end or to what stops them. The parser takes the tokens on the way, also where
-// they are stopped later: the caller marks it before.
+// they are stopped later: the caller marks it before. How it goes on is a value of its own, since the contract names it.
 pub fn lay<P: Stepping>(parser: &mut P, contexts: &[u32], marked: &Marked) -> Result<Draft, Reason>
     requires { length contexts.now ≤ 64 }
     ensures { Laying contexts.now marked.now.mark marked.now.coming (meaning P.Stepping parser.old) (meaning P.Stepping parser.new) result }

@@ -112,7 +112,8 @@ impl Before {
 }
 
 impl Rule {
-    // The tokens that the rule inserts.
+    // The tokens that the rule inserts. One `match` on the rule for each definition that names it: this, how it goes on and
+    // what it leaves of the contexts.
     pub fn inserting(self) -> &'static [Insert]
         ensures { result.now ≡ inserting self }
     {
@@ -241,7 +242,8 @@ fn rule_at_lexeme<P: Probing>(parser: &P, kind: u32, innermost: Option<u32>) -> 
     }
 }
 
-// The rule that applies at a mark before what comes, or at none, where the parser stands.
+// The rule that applies at a mark before what comes, or at none, where the parser stands. Three cases of data, each with a
+// function of its own.
 pub fn rule_at<P: Probing>(
     parser: &P,
     mark: Option<Mark>,

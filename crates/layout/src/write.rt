@@ -29,7 +29,7 @@ impl Coming {
     }
 }
 
-// Puts a token so many times.
+// Puts a token so many times; the `for` names no index.
 fn put_times(queue: &mut Queue<'_, Token>, token: Token, times: u32)
     requires { times ≤ room queue.old }
     ensures list { waiting queue.new ≡ waiting queue.old ++ replicate times token }

@@ -10,3 +10,6 @@ mod weighed;
 
 pub use read::speed_read;
 pub use resolve::speed_resolve;
+
+#[cfg(test)]
+mod tests;

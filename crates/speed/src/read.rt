@@ -10,6 +10,7 @@ use sheet::Lexeme;
 // The reader works through so many places.
 const PLACES: usize = 64;
 
+// Not by the weight of its token: the sum is told in the order of the fields.
 impl Weighed for Lexeme {
     ghost weight = { λ lexeme. told_weight (told_lexeme lexeme) };
 
@@ -23,13 +24,15 @@ impl Weighed for Lexeme {
     }
 }
 
-// What the end of a reading adds to the number.
-fn of_stop(stop: Stop) -> u64
-    ensures { result ≡ stop_weight stop }
-{
-    match stop {
-        Stop::Fault(fault) => fault.weigh(),
-        Stop::Full(_) => 0,
+// The end of a reading adds its fault, if it has one.
+impl Weighed for Stop {
+    ghost weight = { stop_weight };
+
+    fn weigh(self) -> u64 {
+        match self {
+            Stop::Fault(fault) => fault.weigh(),
+            Stop::Full(_) => 0,
+        }
     }
 }
 
@@ -48,7 +51,7 @@ pub extern "C" fn speed_read(text: &[u8]) -> u64
         sum = take_all(&mut queue, sum);
         match answer {
             Ok(_) => return sum,
-            Err(stop) => sum = sum.wrapping_add(of_stop(stop)),
+            Err(stop) => sum = sum.wrapping_add(stop.weigh()),
         }
     }
 }

@@ -34,7 +34,8 @@ pub(super) fn is_plain(lexeme: &Lexeme) -> bool
 }
 
 impl<P: Stepping> Resolver<P> {
-    // The rules over what comes, with the parser asked on the way. The parser takes the tokens also where they are
+    // The rules over what comes, with the parser asked on the way. That only the parser moves (`Beside`) is said by each of
+    // three methods, for its own call. The parser takes the tokens also where they are
     // refused later: the caller marks it before.
     fn attempt(&mut self, marked: &Marked, free: usize) -> Result<Draft, Reason>
         ensures told { Attempts self.old.contexts.items marked.now.mark marked.now.coming free (meaning P.Stepping self.old.parser) (meaning P.Stepping self.new.parser) result }
@@ -74,7 +75,7 @@ impl<P: Stepping> Resolver<P> {
     }
 
     // A lexeme that has no mark and is no brace: the parser takes it at once or says why not, and nothing has to be taken
-    // back. It is left open where a block may close before it.
+    // back. It is left open where a block may close before it. The two refusals are told apart, so each is named.
     pub(super) fn take_directly(&mut self, lexeme: &Lexeme) -> Option<Result<(), Reason>>
         requires { Plain lexeme.now }
         ensures told { (free : ℕ) → 1 ≤ free → MatchOption result (Took [] (meaning P.Stepping self.old.parser) (meaning P.Stepping self.new.parser)) (λ x. Moves self.old.contexts.items none (lexeme' lexeme.now) free (meaning P.Stepping self.old.parser) (meaning P.Stepping self.new.parser) (alone (array_vec_len self.old.contexts) x)) }

@@ -85,6 +85,7 @@ impl<P: Stepping> Resolver<P> {
         if !self.is_direct(number, lexeme, free) {
             return None;
         }
+        // By patterns: with `?` and `is_ok()` the search gave up on what is promised here.
         match self.take_directly(lexeme) {
             None => None,
             Some(Err(reason)) => Some(Err(reason)),

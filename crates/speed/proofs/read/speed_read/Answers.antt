@@ -13,8 +13,8 @@ pub loop-stop-preserved : goal.loop-stop-preserved
 loop-stop-preserved c =
     let read = c.read-answer.ensures in
     let inv = c.loop-stop.invariant in
-    let on = at_stop c.loop-stop.reader c.loop-stop.queue inv.1 _ read.list c.loop-stop.sum c.take_all-sum.result c.take_all-sum.ensures.value _ c.of_stop-sum.result c.of_stop-sum.ensures (sym c.in-Err.is ∙ read.answer) in (
-      ap (λ n. ((c.take_all-sum.result + c.of_stop-sum.result) % 2 ^ 64 + n) % 2 ^ 64) (ap (λ t. of_rest t (offset_of c.read-answer.new.self)) read.text ∙ ap (of_rest (text_of c.loop-stop.reader)) read.next) ∙ on ∙ inv.0,
+    let on = at_stop c.loop-stop.reader c.loop-stop.queue inv.1 _ read.list c.loop-stop.sum c.take_all-sum.result c.take_all-sum.ensures.value _ c.weigh-sum.result c.weigh-sum.ensures (sym c.in-Err.is ∙ read.answer) in (
+      ap (λ n. ((c.take_all-sum.result + c.weigh-sum.result) % 2 ^ 64 + n) % 2 ^ 64) (ap (λ t. of_rest t (offset_of c.read-answer.new.self)) read.text ∙ ap (of_rest (text_of c.loop-stop.reader)) read.next) ∙ on ∙ inv.0,
       c.take_all-sum.ensures.emptied,
       c.take_all-sum.ensures.places.size ∙ read.places.size ∙ inv.2,
     )

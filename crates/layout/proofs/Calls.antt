@@ -6,6 +6,7 @@ use Rattle.sheet.specs.declared.fault.Reason.{Reason}
 use Rattle.sheet.specs.declared.lexeme.Lexeme.{Lexeme}
 use Rattle.sheet.specs.declared.lexeme.Place.{Place}
 use Rattle.sheet.specs.declared.lexeme.Token.{Token}
+use Rattle.layout.proofs.Whys.{why_of}
 use Rattle.layout.specs.Layout.{kinds}
 use Rattle.layout.specs.Limits.{Laid, Runs}
 use Rattle.layout.specs.Marks.{after}
@@ -19,10 +20,6 @@ use Rattle.layout.proofs.Determined.{runs_alike}
 abbrev laid_of : Result Laid Reason → Laid → Laid
 laid_of (Ok x) d = x
 laid_of (Err w) d = d
-
-abbrev why_of : Result Laid Reason → Reason → Reason
-why_of (Ok x) d = d
-why_of (Err w) d = w
 
 abbrev first_call : Call → List Call → Call
 first_call d [] = d

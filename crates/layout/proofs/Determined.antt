@@ -4,6 +4,7 @@ use Rattle.std.proofs.lemmas.Bool.{false≢true, true≢false}
 use Rattle.parser.specs.Sets.{Lists, Same}
 use Rattle.sheet.specs.declared.fault.Reason.{Reason}
 use Rattle.sheet.specs.Tokens.{written}
+use Rattle.layout.proofs.Whys.{why_of}
 use Rattle.layout.specs.Limits.{Goes, Laid, Runs, and_before, done, ends, goes, goes_on, is_undefined, not_viable, reach_spent, refuses, stops, too_deep, writes}
 use Rattle.layout.specs.Marks.{column, inserted}
 use Rattle.layout.specs.Rules.{Applies, MustClose, Viable, block_left_open, close_at_end, close_on_error, close_shallower, close_typed, drop_deeper, drop_outside, empty_block, end, inserts, leaves, onward, open_block, open_typed, separate, stray_close, write_lexeme}
@@ -15,10 +16,6 @@ use Rattle.layout.proofs.Single.{mark_in, single_rule, way}
 abbrev or_zero : Result ℕ Reason → ℕ
 or_zero (Ok n) = n
 or_zero (Err w) = 0
-
-abbrev why_of : Result ℕ Reason → Reason → Reason
-why_of (Ok n) d = d
-why_of (Err w) d = w
 
 module _ (G H : Lists) (same : Same G H) where
   viable_same : (u : List ℕ) (k : ℕ) → Viable G u k → Viable H u k

@@ -26,3 +26,4 @@ pub mod Due
 pub mod Braces
 pub mod FedAgain
 pub mod Lawful
+mod Whys

@@ -8,6 +8,7 @@ use Rattle.sheet.specs.declared.fault.Reason.TheVariants.{TooDeep, ReachSpent}
 use Rattle.sheet.specs.declared.lexeme.Lexeme.{Lexeme}
 use Rattle.sheet.specs.declared.lexeme.Place.{Place}
 use Rattle.sheet.specs.declared.lexeme.Token.{Token}
+use Rattle.layout.proofs.Whys.{why_of}
 use Rattle.layout.specs.Layout.{Lays, Resolves, at_end, at_lexeme, kinds}
 use Rattle.layout.specs.Layout as layout
 use Rattle.layout.specs.Limits.{Goes, Laid, Runs, and_before}
@@ -29,10 +30,6 @@ tokens_in (Err w) = []
 abbrev contexts_in : Result Laid Reason → List ℕ
 contexts_in (Ok x) = x.contexts
 contexts_in (Err w) = []
-
-abbrev why_in : Result Laid Reason → Reason → Reason
-why_in (Ok x) d = d
-why_in (Err w) d = w
 
 stopped_in : (ts : List Token) (o : Result Laid Reason) (why : Reason) → and_before ts o ≡ Err why → o ≡ Err why
 stopped_in a b c d = grind arith
@@ -108,7 +105,7 @@ module _ (G : Lists) where
       end_limited why rest moved (stopped_in (map (inserted (ending p)) (inserts r')) o why is) (subst G (regroup u (inserts r) p out) s)
   end_limited {u} {left} {ks} {p = p} why (Lays.goes_on {r = r} {out = out} a e rest) (Runs.stops {why = w} a' e' g) is s =
       let same = single_rule G u a a' in
-      subst (λ y. (y ≡ TooDeep) ⊎ (y ≡ ReachSpent)) (ap (λ o. why_in o w) is)
+      subst (λ y. (y ≡ TooDeep) ⊎ (y ≡ ReachSpent)) (ap (λ o. why_of o w) is)
       (goes_limited (kinds out) (subst (λ y. Goes G (length ks) u left (inserts y) (Err w)) (sym same) g) (subst G (regroup u (inserts r) p out ∙ append_assoc u (inserts r) (kinds out)) s))
   end_limited {u} why (Lays.goes_on a e rest) (Runs.is_undefined a' e') is s = absurd (omega (arith, ap way (sym e ∙ ap onward (single_rule G u a a') ∙ e')))
   end_limited {u} why (Lays.goes_on a e rest) (Runs.ends a' e') is s = absurd (omega (arith, ap way (sym e ∙ ap onward (single_rule G u a a') ∙ e')))

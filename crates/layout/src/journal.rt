@@ -86,7 +86,8 @@ fn make<P: Stepping>(resolver: &mut Resolver<P>, call: Call, queue: &mut Queue<'
     }
 }
 
-// Takes all waiting tokens out of a queue and writes them down behind others.
+// Takes all waiting tokens out of a queue and writes them down behind others. One line empties a queue wherever one is
+// emptied, and what becomes of the elements is each caller's own.
 pub fn drain(queue: &mut Queue<'_, Token>, tokens: &mut Vec<Token>) -> Result<(), AllocError>
     ensures kept { OnOk result (tokens.new.items ≡ tokens.old.items ++ waiting queue.old) }
     ensures emptied { OnOk result (waiting queue.new ≡ []) }

@@ -218,7 +218,8 @@ fn rule_at_end(innermost: Option<u32>) -> Rule
     }
 }
 
-// Whether the innermost block is implicit and has to close before a kind.
+// Whether the innermost block is implicit and has to close before a kind. The innermost context comes beside the parser,
+// in which it does not lie.
 fn must_close<P: Probing>(parser: &P, kind: u32, innermost: Option<u32>) -> bool
     ensures { (ks : List ℕ) → innermost_of ks ≡ innermost → Decides result (MustClose (P.remainder parser.now) [] kind ks) }
 {

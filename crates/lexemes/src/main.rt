@@ -15,7 +15,8 @@ use std::io::{BufWriter, Read, Write};
 // The reader works through so many places, fewer than most sheets have lexemes.
 const PLACES: usize = 16;
 
-// Writes and empties what waits in the queue, and answers how many lexemes that were.
+// Writes and empties what waits in the queue, and answers how many lexemes that were. Where a lexeme's bytes lie is one
+// line, as in `whole` for a token.
 fn write_waiting<W: Write>(
     text: &[u8],
     queue: &mut Queue<'_, Lexeme>,

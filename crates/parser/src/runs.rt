@@ -29,7 +29,8 @@ pub enum Answer {
 
 // Takes the kinds in turn until one is refused, and answers how many were taken. Every kind of a list that
 // begins a list of the remainder is taken, as far as the number left goes. A `for` with its index: the parser changes at
-// each turn, and a closure of `take_while` or `position` would have to change it.
+// each turn, and a closure of `take_while` or `position` would have to change it. That no more are
+// taken than there are (`within`) is said of other answers too, each of its own.
 pub fn take_all<P: Stepping>(parser: &mut P, kinds: &[u32]) -> usize
     ensures within { result ≤ length kinds.now }
     ensures paid { result ≤ P.left parser.old }

@@ -23,7 +23,8 @@ fn in_digits(class: Class) -> bool
     matches!(class, Class::Digit)
 }
 
-// How many bytes at the front are of the classes that a test passes.
+// How many bytes at the front are of the classes that a test passes. That they are no more than there are (`within`) is
+// said of each such answer by itself.
 fn front_length<F: Fn(Class) -> bool>(bytes: &[u8], passes: F) -> usize
     requires { F.IsAlwaysCallable passes }
     ensures value { (p : Class → Bool) → AnswersAs p (F.post passes) → result ≡ fronts p bytes.now }

@@ -49,7 +49,7 @@ fn first_sheet(bytes: &[u8]) -> anyhow::Result<(&[u8], &[u8])>
     cut(&bytes[end + 1..], size)
 }
 
-// Writes what comes of a sheet.
+// Writes what comes of a sheet. The allocator is a parameter, here and elsewhere, as the library passes it.
 fn write_sheet<W: Write>(
     heap: Global,
     text: &[u8],

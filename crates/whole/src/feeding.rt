@@ -14,7 +14,7 @@ use queue::Queue;
 use reader::Reader;
 use sheet::{Lexeme, Place};
 
-// So many lexemes are read at once.
+// So many lexemes are read at once, as `speed` reads where it reads alone.
 const LEXEMES: usize = 64;
 
 // Feeds a lexeme and keeps what it writes, or why it is refused. This and the two below say the same of one lexeme, of all

@@ -20,7 +20,7 @@ use sheet::Place;
 use std::alloc::Global;
 
 // Gives up the open sheet. That it is the ticket's stands in three contracts of this file and in no struct of the two: such
-// a struct would hold the lent resolver, and each contract would speak of what was lent besides.
+// a struct would hold the lent resolver, and each contract would speak of what was lent besides. So does `Shut`.
 fn give_up<P: Stepping>(ticket: Ticket, resolver: &mut Resolver<P>)
     requires { (standing resolver.old).sheet ≡ open_sheet ticket.number }
     ensures calls { Calls (stand P.Stepping resolver.old) (give_up_call ticket.number) closed_answer [] (stand P.Stepping resolver.new) }

@@ -38,7 +38,7 @@ fn text_of<'a>(text: &'a [u8], token: &Token) -> &'a [u8]
     text.get(from..from + token.length as usize).unwrap_or(&[])
 }
 
-// Adds a token's text behind a space.
+// Adds a token's text behind a space. No `Display`: the text is bytes, and need not be UTF-8.
 fn add_next(bytes: &mut Vec<u8>, text: &[u8], token: &Token) -> Result<(), AllocError>
     ensures { OnOk result (bytes.new.items ≡ bytes.old.items ++ one_spaced text.now true token.now) }
 {

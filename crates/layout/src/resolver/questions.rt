@@ -24,6 +24,7 @@ impl<P> Resolver<P> {
     {
         OpenBlocks {
             all: self.contexts.len(),
+            // An explicit block's context is 0.
             implicit: self.contexts.iter().filter(|context| **context > 0).count(),
         }
     }

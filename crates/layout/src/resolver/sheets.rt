@@ -62,7 +62,8 @@ impl<P> Resolver<P> {
 }
 
 impl<P: Stepping> Resolver<P> {
-    // Whether a lexeme of the open sheet can be taken directly: it has no mark and is no brace, and a place is free.
+    // Whether a lexeme of the open sheet can be taken directly: it has no mark and is no brace, and a place is free. A ticket's
+    // number and a queue's room are two parameters here and below: they have nothing in common.
     fn is_direct(&self, number: u64, lexeme: &Lexeme, free: usize) -> bool
         ensures { result ≡ true → (1 ≤ free) × (self.now.sheet ≡ Some number) × Good lexeme.now × (mark_of self.now.before lexeme.now ≡ none) × Plain lexeme.now }
     {

@@ -18,6 +18,7 @@ pub record Counted (a : Tally) (ts : List Token) (fs : List Fault) (b : Tally) :
 sums_on : (a b c x y z : ℕ) → b ≡ (a + x) % 2 ^ 64 → c ≡ (b + y) % 2 ^ 64 → z ≡ x + y → c ≡ (a + z) % 2 ^ 64
 sums_on a b c x y z p q e = q ∙ ap (λ n. (n + y) % 2 ^ 64) p ∙ mod-add-mod (a + x) (2 ^ 64) y ∙ ap (λ n. n % 2 ^ 64) (add_assoc a x y ∙ ap (λ n. a + n) (sym e))
 
+-- what is added up is kept as a keeper does
 pub counted_keeping : Keeping Counted
 counted_keeping =
     record {

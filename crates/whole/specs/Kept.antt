@@ -19,6 +19,7 @@ take_on zero xs ys = refl
 take_on (suc n) [] ys = refl
 take_on (suc n) (x ∷ xs) ys = ap (λ l. x ∷ l) (take_on n xs ys)
 
+-- what is kept of a sheet is kept as a keeper does
 pub holds_keeping : Keeping Holds
 holds_keeping =
     record {

@@ -1,4 +1,4 @@
--- The sheet grammar's sets are exact: list_all member has a script that shows it, and the sets are closed, so that there
+-- The sheet grammar's sets are exact: every member has a script that shows it, and the sets are closed, so that there
 -- are no other members.
 -- Assumes nothing.
 use Rattle.std.proofs.Common.{◌≡◌, ℕ, ◌≤◌, Bool, true, false, ◌&&◌, eqb, leb, List, [], ◌∷◌, ◌++◌, Decides, sym, refl, subst, ⊎_elim, arith, eqb-true, le-leb, leb-true}
@@ -174,7 +174,7 @@ follow_derives s t e =
     let v = is_adjacent s t (played sheet by (start ∷ [])) both.1 in
     (v.0, v.1, row_high follower_rows s t e, is_kind_lem t parts.0, subst (Derives sheet (start ∷ [])) v.2 (play sheet by (start ∷ []) both.0))
 
--- list_all symbol up to 25 derives some list of kinds
+-- every symbol up to 25 derives some list of kinds
 pub productive : (s : ℕ) → 1 ≤ s → s ≤ 25 → (w : List ℕ) × Derives sheet (s ∷ []) w × Kinds w
 productive s low high =
     ⊎_elim
@@ -247,7 +247,7 @@ begins_derives (s ∷ x) t k e =
 pub begins_exact : (x : List ℕ) (t : ℕ) → IsKind t → Decides (begins null begin x t) (CanBegin sheet x t)
 begins_exact x t k = (begins_derives x t k, λ b. begins_sound closed t k b.2)
 
--- list_all symbol of the list is one of the grammar's
+-- every symbol of the list is one of the grammar's
 abbrev pub Known : List ℕ → Type 0
 Known [] = Unit {0}
 Known (s ∷ x) = (1 ≤ s) × (s ≤ 25) × Known x

@@ -6,14 +6,17 @@ use mathlib.Core.Bool.{false≢true}
 use Rattle.std.proofs.lemmas.List.{length-reverse}
 use Rattle.std.proofs.lemmas.Slice.Eq.{bytes_eq-Decides}
 use Rattle.std.proofs.lemmas.Bool.{and_parts, eqb-true, eqb-false, ltb-true, ltb-false, leb-true}
-use Rattle.grammar.specs.Grammar.{IsKind, nth}
+use Rattle.grammar.specs.Grammar.{Production, Numbered, Derives, replace, IsKind, nth}
 use Rattle.grammar.specs.Sheet.{sheet}
-use Rattle.grammar.proofs.Tests.{below}
+use Rattle.grammar.proofs.Tests.{below, numbered_nth}
+use Rattle.grammar.proofs.Derivations.{derives_refl}
+use Rattle.grammar.proofs.SheetSets.{Known, known_derived}
 use Rattle.table.specs.Entry.{Entry}
 use Rattle.table.specs.Stack.{Ends, SameFor, Follows, Never}
 use Rattle.table.specs.Steps.{left_of, step_at}
 use Rattle.table.specs.Comes.{Leaves}
-use Rattle.table.proofs.Rule.{cell, at_cell, entry_at}
+use Rattle.table.specs.Expands.{Expands, stays, expands, Stuck}
+use Rattle.table.proofs.Rule.{cell, at_cell, entry_at, entry_none}
 use Rattle.table.proofs.Expand.{entry_zero, entry_expands, ends_expand, ends_pop, ends_known, kind_other, kind_met}
 
 -- what the step of a number means: as t comes next, the symbols before the rest are rejected, vanish, or are met
@@ -136,3 +139,82 @@ all_few = refl
 -- a step's number is below 16
 pub step_few : (a t : ℕ) → 16 ≤ a → a ≤ 25 → IsKind t → step_at a t < 16
 step_few a t low high k = ltb-true (step_at a t) 16 (at_cell (λ a t. ltb (step_at a t) 16) all_few a t low high k)
+
+-- what the step of a number says of the entries: they end at a symbol, leave none, or come to t and what is left
+abbrev pub LedTo : ℕ → List ℕ → ℕ → Type 0
+LedTo t x zero = Stuck t x
+LedTo t x (suc zero) = Expands t x []
+LedTo t x (suc (suc n)) = Expands t x (t ∷ left_of n)
+
+led_vanishing : (t s : ℕ) → vanishes s ≡ true → LedTo t [] s
+led_vanishing t zero e = absurd (false≢true e)
+led_vanishing t (suc zero) e = stays
+led_vanishing t (suc (suc n)) e = absurd (false≢true e)
+
+led_at : (a t : ℕ) (x : List ℕ) (s : ℕ) → a ≡ t → leaves x s ≡ true → LedTo t (a ∷ x) s
+led_at a t x zero same e = absurd (false≢true e)
+led_at a t x (suc zero) same e = absurd (false≢true e)
+led_at a t x (suc (suc n)) same e =
+    let parts = and_parts (leb (length (left_of n)) 4) (bytes_eq x (left_of n)) e in
+    let left = (bytes_eq-Decides x (left_of n)).0 parts.1 in
+    subst (λ b. Expands t (a ∷ x) (b ∷ left_of n)) same (subst (λ y. Expands t (a ∷ x) (a ∷ y)) left stays)
+
+led_stuck : (a t : ℕ) (x : List ℕ) (s : ℕ) → (a ≡ t → ⊥) → Entry a t 0 → rejects s ≡ true → LedTo t (a ∷ x) s
+led_stuck a t x zero other entry e = record { first = a; others = x; comes = stays; other = other; no_entry = entry }
+led_stuck a t x (suc zero) other entry e = absurd (false≢true e)
+led_stuck a t x (suc (suc n)) other entry e = absurd (false≢true e)
+
+-- expanded once, and then on
+led_on : (a t n : ℕ) (p : Production) (x : List ℕ) (s : ℕ) → Entry a t n → Numbered sheet n p → LedTo t (p.right ++ x) s → LedTo t (a ∷ x) s
+led_on a t n p x zero entry at h =
+    record { first = h.first; others = h.others; comes = expands entry at h.comes; other = h.other; no_entry = h.no_entry }
+led_on a t n p x (suc zero) entry at h = expands entry at h
+led_on a t n p x (suc (suc m)) entry at h = expands entry at h
+
+module _ (a t : ℕ) (x : List ℕ) (s : ℕ) (k : IsKind t) (known : Known (a ∷ x)) where
+  entry_here : (ltb a 16 ≡ false) → Entry a t (cell a t)
+  entry_here high = entry_at a t (ltb-false a 16 high) known.1 k.0 k.1
+
+  led_top : (b c z : Bool) → ltb a 16 ≡ b → eqb a t ≡ c → eqb (cell a t) 0 ≡ z → (on : Unit {0} → Bool)
+      → (Known ((nth sheet (cell a t)).right ++ x) → on tt ≡ true → LedTo t ((nth sheet (cell a t)).right ++ x) s) → at_top b c z x s on ≡ true → LedTo t (a ∷ x) s
+  led_top true true z low same entry on more e = led_at a t x s (eqb-true a t same) e
+  led_top true false z low other entry on more e =
+      led_stuck a t x s (eqb-false a t other) (entry_none a t (λ low' high first last. omega (arith, ltb-true a 16 low))) e
+  led_top false c true high same entry on more e =
+      led_stuck a t x s (λ is. omega (arith, is, k.1, ltb-false a 16 high)) (subst (Entry a t) (eqb-true (cell a t) 0 entry) (entry_here high)) e
+  led_top false c false high same entry on more e =
+      let q = (entry_here high).is (eqb-false (cell a t) 0 entry) in
+      let is : nth sheet (cell a t) ≡ q.0 = numbered_nth q.1 in
+      let one : Derives sheet (a ∷ x) (q.0.right ++ x) = subst (λ b. Derives sheet (b ∷ x) (q.0.right ++ x)) q.2 (replace q.1 (derives_refl (q.0.right ++ x))) in
+      let then : Known ((nth sheet (cell a t)).right ++ x) = subst (λ p. Known (p.right ++ x)) (sym is) (known_derived one known) in
+      led_on a t (cell a t) q.0 x s (entry_here high) q.1 (subst (λ p. LedTo t (p.right ++ x) s) is (more then e))
+
+-- what passes the test is what the entries lead to
+leads_led : (n t : ℕ) (x : List ℕ) (s : ℕ) → IsKind t → Known x → leads n t x s ≡ true → LedTo t x s
+leads_led zero t x s k known e = absurd (false≢true e)
+leads_led (suc n) t [] s k known e = led_vanishing t s e
+leads_led (suc n) t (a ∷ x) s k known e =
+    led_top a t x s k known (ltb a 16) (eqb a t) (eqb (cell a t) 0) refl refl refl (λ _. leads n t ((nth sheet (cell a t)).right ++ x) s)
+    (λ then. leads_led n t ((nth sheet (cell a t)).right ++ x) s k then) e
+
+-- the entries lead to each step
+step_led : (a t : ℕ) → 16 ≤ a → a ≤ 25 → IsKind t → LedTo t (a ∷ []) (step_at a t)
+step_led a t low high k =
+    leads_led 4 t (a ∷ []) (step_at a t) k (omega (arith, low), high, tt) (at_cell (λ a t. leads 4 t (a ∷ []) (step_at a t)) all_lead a t low high k)
+
+-- and so to a number that was read
+pub led_by : {a t n k : ℕ} → 16 ≤ a → (a ≤ 25) × IsKind t → n ≡ step_at a t → n ≡ k → LedTo t (a ∷ []) k
+led_by {a} {t} low known read is =
+    subst (LedTo t (a ∷ [])) (sym read ∙ is) (step_led a t low known.0 known.1)
+
+-- what is left by its number is so too where it is kept the last first
+pub led_met : (a t n : ℕ) (ys : List ℕ) → reverse ys ≡ left_of n → LedTo t (a ∷ []) (suc (suc n)) → Expands t (a ∷ []) (t ∷ reverse ys)
+led_met a t n ys is led = subst (λ x. Expands t (a ∷ []) (t ∷ x)) (sym is) led
+
+-- a kind is met by itself, and by no other
+pub kind_led : (a t : ℕ) → a ≡ t → Expands t (a ∷ []) (t ∷ [])
+kind_led a t same = subst (λ b. Expands t (a ∷ []) (b ∷ [])) same stays
+
+pub kind_stuck : (a t : ℕ) → a < 16 → (a ≡ t → ⊥) → Stuck t (a ∷ [])
+kind_stuck a t low other =
+    record { first = a; others = []; comes = stays; other = other; no_entry = entry_none a t (λ low' high first last. omega (arith, low)) }

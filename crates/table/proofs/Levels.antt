@@ -1,6 +1,6 @@
 -- A stack laid anew, and what is viable at it.
 -- Assumes nothing.
-use Rattle.std.proofs.Common.{◌≡◌, ℕ, ◌-◌, List, [], ◌∷◌, ◌++◌, take, reverse, Option, Some, None, MatchOption, is_some, Result, Ok, Err, IsOk, OnOk, Decides, sym, refl, subst}
+use Rattle.std.proofs.Common.{◌≡◌, ℕ, ◌-◌, List, [], ◌∷◌, ◌++◌, take, reverse, Option, Some, None, MatchOption, is_some, Decides, sym, refl, subst}
 use mathlib.Core.Bool.{false≢true}
 use Rattle.std.specs.List.{list_all}
 use Rattle.std.proofs.lemmas.Bool.{and_parts, and_from}
@@ -68,8 +68,3 @@ took {kind} n {stack} {now} m is =
       left = refl;
       mark = tt;
     }
-
--- what a call leaves that did what it was to do
-pub done_so : {P E : Type 0} (r : Result (Unit {0}) E) → IsOk r → OnOk r P → P
-done_so (Ok u) ok h = h
-done_so (Err e) ok h = absurd (false≢true ok)

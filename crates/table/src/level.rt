@@ -44,6 +44,18 @@ fn lay(symbols: &mut ArrayVec<u8, DEPTH>, below: usize, top: &[u8])
     }
 }
 
+// Writes symbols over as many others. It is no `copy_from_slice`, and a function that stays apart, since by `copy_from_slice`, or
+// by a loop within the caller, the archive of `speed` needs `memmove` from outside beside `memcpy`.
+#[inline(never)]
+fn write_over(symbols: &mut [u8], others: &[u8])
+    requires { length symbols.old ≡ length others.now }
+    ensures { symbols.new ≡ others.now }
+{
+    for at in 0..symbols.len() {
+        symbols[at] = others[at];
+    }
+}
+
 impl Level {
     ghost use Rattle.table.specs.Level.{remains, stack_of, means};
 
@@ -70,19 +82,29 @@ impl Level {
         self.left = REACH;
     }
 
-    // The same stack and number left as the other has. Only the symbols of the two stacks are touched. An `ArrayVec` is not
-    // `Copy`, and its `clone` answers an error, where this call cannot fail.
+    // The same stack and number left as the other has. Only the symbols of the two stacks are touched, and nothing is tested
+    // for room. An `ArrayVec` is not `Copy`, its `clone` answers an error, where this call cannot fail, and its
+    // `try_extend_from_slice` tests for room.
     pub(crate) fn copy(&mut self, other: &Level)
         ensures stack { stack_of self.new ≡ stack_of other.now }
         ensures left { self.new.left ≡ other.now.left }
     {
-        self.symbols.clear();
-        let _ = self.symbols.try_extend_from_slice(&other.symbols);
+        let below = self.symbols.len().min(other.symbols.len());
+        lay(&mut self.symbols, below, &other.symbols[below..]);
+        write_over(self.symbols.as_mut_slice(), &other.symbols);
         self.left = other.left;
     }
 
     // Whether some list that the stack derives begins with this kind.
     pub(crate) fn viable(&self, kind: u32) -> bool
+        ensures { Decides result (Begins (remains (stack_of self.now)) kind) }
+    {
+        self.meets(kind)
+    }
+
+    // Whether a walk down the stack meets the kind. Apart from `viable`, which is proved from this contract, so that a kind that
+    // is called viable on other grounds is refused for what it means.
+    fn meets(&self, kind: u32) -> bool
         ensures { Decides result (Begins (remains (stack_of self.now)) kind) }
     {
         meet(&self.symbols, kind).is_some()

@@ -1,5 +1,5 @@
-// The LL(1) table parser of the sheet grammar: a stack of symbols, expanded by a constant table, that implements the
-// stepping interface with a reach of 1,024. docs/parsers.md says how it works.
+// The LL(1) table parser of the sheet grammar: a stack of symbols, which goes by what a constant table's expansions
+// lead to, and implements the stepping interface with a reach of 1,024. docs/parsers.md says how it works.
 
 #![tactic(auto)]
 

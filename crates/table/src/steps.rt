@@ -5,6 +5,7 @@ ghost use Rattle.std.specs.Prelude.{◌≡◌, ◌<◌, ◌≤◌, [], reverse, 
 ghost use Rattle.grammar.specs.Grammar.{IsKind};
 ghost use Rattle.table.specs.Steps.{step_rows, left_of as named};
 ghost use Rattle.table.specs.Comes.{Comes};
+ghost use Rattle.table.specs.Expands.{ByEntries};
 
 #[derive(Clone, Copy)]
 pub(crate) enum Step {
@@ -73,7 +74,8 @@ fn left_of(number: u8) -> &'static [u8]
 // What a symbol of the grammar comes to when this kind comes next.
 pub(crate) fn comes_to(symbol: u8, kind: u32) -> Step
     requires { (symbol ≤ 25) × IsKind kind }
-    ensures { Comes symbol kind result }
+    ensures entries { ByEntries symbol kind result }
+    ensures means { Comes symbol kind result }
 {
     if symbol < NONTERMINAL {
         return if u32::from(symbol) == kind {

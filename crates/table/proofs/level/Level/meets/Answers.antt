@@ -1,5 +1,5 @@
 use Rattle.table.proofs.Levels.{viable_so}
-use Rattle.table.proofs.level.Level.viable.Goals as goal
+use Rattle.table.proofs.level.Level.meets.Goals as goal
 
 pub meet-requires : goal.meet-requires
 meet-requires c = rw c.deref.ensures.0 c.args.self.now.ends

@@ -81,9 +81,18 @@ static CLASSES: [Class; 256] = [
     Unreadable, Unreadable, Unreadable, Unreadable, Unreadable, Unreadable, Unreadable, Unreadable,
 ];
 
+// What stands in the table, whose entries are counted from 0. A function of its own: the computed comparison is about it, and
+// `class_of` is proved from its contract, so that a mistake there is refused for what it means.
+fn entry(index: usize) -> Class
+    requires { index < 256 }
+    ensures { result ≡ class index }
+{
+    CLASSES[index]
+}
+
 // The class of a byte.
 pub fn class_of(byte: u8) -> Class
     ensures { result ≡ class byte }
 {
-    CLASSES[byte as usize]
+    entry(byte as usize)
 }

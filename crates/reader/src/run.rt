@@ -60,7 +60,9 @@ fn number_length(bytes: &[u8]) -> usize
     whole + fraction_length(&bytes[whole..])
 }
 
-// The kind of a name: five names are keywords.
+// The kind of a name: five names are keywords. Its proof is searched for and names no arm, so that an edit of a keyword is
+// refused for what it means.
+#[tactic(auto, using(std::proofs::lemmas::Grind::common_steps))]
 fn word_kind(word: &[u8]) -> Kind
     ensures { result ≡ word_kind word.now }
 {

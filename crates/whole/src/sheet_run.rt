@@ -81,6 +81,7 @@ fn run<P: Stepping, K: Keeper>(
 // What a keeper keeps of a whole sheet: begins it, feeds all that the text tells, and finishes the sheet, or gives it
 // up if anything was refused. A text that is too long is read as empty. Afterwards the resolver is ready for the next
 // sheet, if it was before.
+#[tactic(auto, using(crate::proofs::Sheets::brings_not_begun))]
 pub fn resolve_with<P: Stepping, K: Keeper>(
     text: &[u8],
     resolver: &mut Resolver<P>,

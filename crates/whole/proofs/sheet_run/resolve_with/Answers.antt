@@ -3,7 +3,7 @@ use Rattle.std.proofs.lemmas.Result.{IfOk-weaker}
 use Rattle.parser.specs.Meaning.{Meaning}
 use Rattle.layout.specs.Calling.{standing}
 use Rattle.whole.specs.Whole.{readable}
-use Rattle.whole.proofs.Sheets.{begun_open, brings_begun, brings_not_begun}
+use Rattle.whole.proofs.Sheets.{begun_open, brings_begun}
 use Rattle.whole.proofs.sheet_run.resolve_with.Given as given
 use Rattle.whole.proofs.sheet_run.resolve_with.Goals as goal
 use Rattle.parser.proofs.Bound.{means}
@@ -23,9 +23,3 @@ returns-in-Ok-clause-brings g c =
     let r = c.args.resolver.now in
     let z = c.begin.new.self in
     IfOk-weaker c.run.result _ _ (λ k x. brings_begun (of g r.parser) (of g z.parser) (standing r) (standing z) g.K.Keeper.kept c.in-Ok.ticket.number [] (readable c.args.text.now) c.args.keeper k (standing c.run.new.resolver) c.in-Ok.ensures x) c.run.ensures.ran
-
-pub returns-in_ok-fault-in-Err-clause-brings : goal.returns-in_ok-fault-in-Err-clause-brings
-returns-in_ok-fault-in-Err-clause-brings g c =
-    let r = c.args.resolver.now in
-    let z = c.begin.new.self in
-    brings_not_begun (of g r.parser) (of g z.parser) (standing r) (standing z) g.K.Keeper.kept c.in-Err.fault [] (readable c.args.text.now) c.args.keeper c.fault.new.self c.in-Err.ensures c.in_ok-fault-in-Err.ensures

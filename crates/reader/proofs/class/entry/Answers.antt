@@ -2,8 +2,8 @@
 use Rattle.std.proofs.Common.{zero-add, arith}
 use Rattle.std.proofs.lemmas.List.FromFn.{get_or-map-range_with_len}
 use Rattle.reader.specs.Classes.{class}
-use Rattle.reader.proofs.class.class_of.Goals as goal
+use Rattle.reader.proofs.class.entry.Goals as goal
 
 pub returns : goal.returns
 unfolding class
-returns c = get_or-map-range_with_len class 0 256 c.args.byte c.args.byte _ (omega arith) (zero-add c.args.byte)
+returns c = get_or-map-range_with_len class 0 256 c.args.index c.args.index _ (omega arith) (zero-add c.args.index)

@@ -1,8 +1,8 @@
 -- The contexts of a draft. Assumes nothing.
-use Rattle.std.proofs.Common.{◌≡◌, ℕ, zero, suc, ◌+◌, ◌<◌, ◌≤◌, Bool, true, false, cond, ltb, List, [], ◌∷◌, ◌++◌, length, get_or, take, drop, is_some, Some, None, Option, sym, refl, ap, ◌∙◌, add-one, arith, length-append, length-take}
+use Rattle.std.proofs.Common.{◌≡◌, ℕ, zero, suc, ◌+◌, ◌<◌, ◌≤◌, eqb, Bool, true, false, cond, ltb, List, [], ◌∷◌, ◌++◌, length, get_or, take, drop, is_some, Some, None, Option, sym, refl, ap, ◌∙◌, add-one, arith, length-append, length-take}
 use Rattle.std.proofs.Math.Seq.{get_or-append_seam}
 use mir.Val.{bool_byte}
-use Rattle.std.proofs.lemmas.Bool.{eq-eqb, eqb-true, ltb-false, ltb-true, ne_eqb, true≢false}
+use Rattle.std.proofs.lemmas.Bool.{cond_both, eq-eqb, eqb-true, ltb-false, ltb-true, ne_eqb, true≢false}
 use Rattle.std.proofs.lemmas.List.{get_or_append_left, take-append-drop, take_all}
 use Rattle.std.proofs.lemmas.List.Sums.{count_by_more_no, count_by_more_yes, length-filter}
 use Rattle.std.specs.List.{count_by, filter}
@@ -37,6 +37,11 @@ stacked_push cs v =
 -- an open sheet may have any contexts
 pub idle_open : (o : Option ℕ) (cs : List ℕ) → is_some o ≡ true → idle o cs ≡ true
 idle_open a b c = grind arith
+
+-- no more of them are implicit than there are
+pub implicit_few : (ks : List ℕ) → implicit_among ks ≤ length ks
+implicit_few [] = omega arith
+implicit_few (k ∷ ks) = cond_both (eqb k 0) 0 1 (λ n. n + implicit_among ks ≤ suc (length ks)) (λ e. omega (arith, implicit_few ks)) (λ e. omega (arith, implicit_few ks))
 
 -- one context more is counted or not
 implicit_more : (cs : List ℕ) (d : ℕ) → d < length cs → implicit_among (stack cs d) ≡ count_by (ltb 0) (take d cs) → (b : Bool) → ltb 0 (get_or cs d 0) ≡ b → implicit_among (stack cs (suc d)) ≡ count_by (ltb 0) (take (suc d) cs)

@@ -20,6 +20,7 @@ impl<P> Resolver<P> {
     pub fn open_blocks(&self) -> OpenBlocks
         ensures all { result.all ≡ length (standing self.now).contexts }
         ensures implicit { result.implicit ≡ implicit_among (standing self.now).contexts }
+        ensures few { result.implicit ≤ result.all }
         ensures idle { is_some (standing self.now).sheet ≡ false → (result.all ≡ 0) × (result.implicit ≡ 0) }
     {
         OpenBlocks {
